@@ -1,0 +1,20 @@
+ghost use Rattle.std.specs.Prelude.{⊤};
+
+use std::alloc::{AllocError, AllocFailed};
+
+/// Memory could not be had. It may come wherever a call takes memory, and is merged with no other
+/// answer.
+#[derive(Clone, Copy, Debug, PartialEq, Eq)]
+pub struct NoMemory;
+
+impl From<AllocError> for NoMemory {
+    fn from(_error: AllocError) -> NoMemory {
+        NoMemory
+    }
+}
+
+impl<T: Drop> From<AllocFailed<T>> for NoMemory {
+    fn from(_failed: AllocFailed<T>) -> NoMemory {
+        NoMemory
+    }
+}
