@@ -1,0 +1,14 @@
+use Rattle.std.proofs.Common.{◌-◌, ◌≤◌, length, arith}
+use Rattle.graphite_base.proofs.KnownLemmas.{Appends-more, length-rest}
+use Rattle.graphite_base.proofs.writing.write_all.Goals as goal
+
+pub loop-done-preserved : goal.loop-done-preserved
+loop-done-preserved g c =
+    let within : c.in-Took.count ≤ length c.args.piece.now - c.loop-done.done
+    = omega (arith, length-rest c.loop-done.done c.args.piece.now, c.in-Took.ensures.fits) in
+    record {
+      within = omega arith;
+      written = Appends-more _ _ _ c.loop-done.done c.in-Took.count c.args.piece.now c.loop-done.invariant.written c.in-Took.ensures.moves;
+      later = omega arith;
+      untouched = λ none. absurd (omega (arith, none, c.in-Took.ensures.fits));
+    }

@@ -1,0 +1,5 @@
+pub mod Causes
+pub mod Known
+pub mod Answers
+pub mod Ends
+pub mod Numbers

@@ -1,0 +1,87 @@
+ghost use Rattle.std.specs.Prelude.{◌≡◌, ◌+◌, ◌<◌, ◌≤◌, [], IfOk, OnOk, IsErrOf, length};
+ghost use Rattle.std.specs.Io.KnownBytes.{Consumes};
+ghost use Rattle.graphite_base.specs.Causes.{Rose};
+ghost use Rattle.graphite_base.specs.Known.{IsWhole, TookJust, TookAtMost};
+ghost use Rattle.graphite_base.specs.declared.reading.ReadText.TheVariants.{NoMemory};
+
+use crate::{Got, Source};
+use std::alloc::{AllocError, Global};
+
+/// Bytes that one read of a text asks for at most.
+const PIECE: usize = 65_536;
+
+/// Why a text was not read.
+#[derive(Clone, Copy, Debug, PartialEq, Eq)]
+pub enum ReadText {
+    /// A read failed, and a fault was counted.
+    Failed,
+    /// More bytes came than the limit allows.
+    TooLong,
+    /// Memory could not be had.
+    NoMemory,
+}
+
+impl From<AllocError> for ReadText {
+    ghost from_gives = { λ _ e. e ≡ NoMemory };
+
+    fn from(_error: AllocError) -> ReadText {
+        ReadText::NoMemory
+    }
+}
+
+/// All bytes of a source, up to its end. `limit` is a number of bytes, and no more than one byte past
+/// it is taken.
+pub fn read_text<S: Source>(
+    alloc: Global,
+    source: &mut S,
+    limit: usize,
+) -> Result<Vec<u8>, ReadText>
+    requires { limit ≤ 268_435_456 }
+    ensures whole { IfOk result (λ text. IsWhole (S.left source.old) (S.left source.new) text.items) }
+    ensures within { IfOk result (λ text. length text.items ≤ limit) }
+    ensures too_long { IsErrOf result ReadText.TooLong
+        → TookJust (S.left source.old) (S.left source.new) (limit + 1) }
+    ensures failed { IsErrOf result ReadText.Failed → Rose (S.faults source.old) (S.faults source.new) }
+    ensures failed_within { IsErrOf result ReadText.Failed
+        → TookAtMost (S.left source.old) (S.left source.new) limit }
+
+    // Whatever the answer is.
+    ensures at_most { TookAtMost (S.left source.old) (S.left source.new) (limit + 1) }
+    ensures later { S.faults source.old ≤ S.faults source.new }
+{
+    let mut buffer = vec![in alloc; 0; PIECE]?;
+    let mut text = Vec::new(alloc);
+    gather(source, &mut buffer, &mut text, limit)?;
+    Ok(text)
+}
+
+// Appends to an empty text, piece by piece through the buffer.
+fn gather<S: Source>(
+    source: &mut S,
+    buffer: &mut [u8],
+    text: &mut Vec<u8>,
+    limit: usize,
+) -> Result<(), ReadText>
+    requires limit { limit ≤ 268_435_456 }
+    requires buffer { 0 < length buffer.old }
+    requires text { text.old.items ≡ [] }
+    ensures whole { OnOk result (IsWhole (S.left source.old) (S.left source.new) text.new.items) }
+    ensures within { OnOk result (length text.new.items ≤ limit) }
+    ensures too_long { IsErrOf result ReadText.TooLong
+        → TookJust (S.left source.old) (S.left source.new) (limit + 1) }
+    ensures failed { IsErrOf result ReadText.Failed → Rose (S.faults source.old) (S.faults source.new) }
+    ensures failed_within { IsErrOf result ReadText.Failed
+        → TookAtMost (S.left source.old) (S.left source.new) limit }
+    ensures at_most { TookAtMost (S.left source.old) (S.left source.new) (limit + 1) }
+    ensures later { S.faults source.old ≤ S.faults source.new }
+{
+    while text.len() <= limit {
+        let most = buffer.len().min(limit + 1 - text.len());
+        match source.read(&mut buffer[..most]) {
+            Got::Bytes(count) => text.extend_from_slice(&buffer[..count])?,
+            Got::End => return Ok(()),
+            Got::Failed => return Err(ReadText::Failed),
+        }
+    }
+    Err(ReadText::TooLong)
+}
