@@ -1,0 +1,9 @@
+pub mod Graph
+pub mod Lines
+pub mod Forms
+pub mod Reading
+pub mod Line
+pub mod Record
+pub mod Step
+pub mod Canonical
+pub mod Spans
