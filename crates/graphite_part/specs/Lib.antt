@@ -1,0 +1,6 @@
+pub mod Counts
+pub mod Fills
+pub mod Pieces
+pub mod Plain
+pub mod PlainLaws
+pub mod Runs

@@ -1,0 +1,27 @@
+//! Laws of pieces. The functions do nothing: what they ensure is the law.
+ghost use Rattle.std.specs.Prelude.{◌≡◌, ◌≤◌, ℕ, List, Bool, Option, None, map, option_map};
+ghost use Rattle.graphite_part.specs.declared.piece.Piece.{Piece};
+ghost use Rattle.graphite_part.specs.Pieces.{value_at, IsChain, AreRuns, run_of, run_with};
+ghost use Rattle.graphite_part.specs.Runs.{runs_of, TellsApart};
+
+/// Two chains with the same value at every instant are the same list of pieces.
+pub fn chain_is_unique<T>()
+    ensures { (xs ys : List (Piece T)) → IsChain xs → IsChain ys
+        → ((t : ℕ) → value_at xs t ≡ value_at ys t) → xs ≡ ys }
+{}
+
+/// A chain with the values of f is the list of the maximal runs of f, where f has nothing from the
+/// horizon on.
+pub fn pieces_are_runs<T>()
+    ensures { (same : T → T → Bool) (f : ℕ → Option T) (horizon : ℕ) (pieces : List (Piece T))
+        → TellsApart (λ x. x) same → AreRuns f pieces → ((t : ℕ) → horizon ≤ t → f t ≡ None)
+        → map run_of pieces ≡ runs_of same f horizon }
+{}
+
+/// The same after a function that keeps different values apart.
+pub fn pieces_are_mapped_runs<T, U>()
+    ensures { (g : T → U) (same : U → U → Bool) (f : ℕ → Option T) (horizon : ℕ)
+        (pieces : List (Piece T))
+        → TellsApart g same → AreRuns f pieces → ((t : ℕ) → horizon ≤ t → f t ≡ None)
+        → map (run_with g) pieces ≡ runs_of same (λ t. option_map g (f t)) horizon }
+{}

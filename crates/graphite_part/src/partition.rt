@@ -1,0 +1,211 @@
+ghost use Rattle.std.specs.Prelude.{◌≡◌, ◌≤◌, [], map, IfOk, OnOk, OnErr};
+ghost use Rattle.graphite_time.specs.Interval.{start_of, end_of};
+ghost use Rattle.graphite_part.specs.Pieces.{value_at, value_on, painted, last_end, piece_on, IsChain, AreRuns};
+
+use crate::counts::{counted_pieces, sorted_ends, sorted_starts};
+use crate::fill::{copy_between, end_of_pieces, push_piece, value_in};
+use crate::{Piece, Plain};
+use graphite_time::{Interval, LAST, Life, NoMemory};
+use std::alloc::Global;
+use std::marker::Model;
+
+/// A value at each instant, or nothing, as a list of pieces: they rise and do not overlap, and two
+/// that touch have different values.
+#[derive(Drop)]
+pub struct Partition<T: Plain> {
+    pieces: Vec<Piece<T>>,
+}
+
+impl<T: Plain> Model for Partition<T> {
+    ghost use Rattle.std.specs.Prelude.{List};
+    ghost use Rattle.graphite_part.specs.declared.piece.Piece.{Piece};
+    ghost use Rattle.graphite_part.specs.Pieces.{IsChain};
+
+    ghost Value = { List (Piece T) };
+
+    ghost view = { λ partition. partition.pieces.items };
+
+    ghost invariant = { λ partition. IsChain partition.pieces.items };
+}
+
+impl<T: Plain> Partition<T> {
+    /// No value at any instant. It takes no memory.
+    pub fn new(alloc: Global) -> Partition<T>
+        ensures { result ≡ [] }
+    {
+        Partition {
+            pieces: Vec::new(alloc),
+        }
+    }
+
+    /// The value at exactly the instants of the life.
+    pub fn on_life(alloc: Global, life: &Life, value: T) -> Result<Partition<T>, NoMemory>
+        ensures { IfOk result (AreRuns (value_on life.now value)) }
+    {
+        let pieces = pieces_on(alloc, life.spans(), value)?;
+        Ok(Partition { pieces })
+    }
+
+    /// The pieces, in order.
+    pub fn pieces(&self) -> &[Piece<T>]
+        ensures pieces { result.now ≡ self.now }
+        ensures chain { IsChain self.now }
+    {
+        &self.pieces
+    }
+
+    /// The value at the instant. `None` exactly where no piece holds it.
+    pub fn at(&self, t: u64) -> Option<T>
+        ensures { result ≡ value_at self.now t }
+    {
+        value_in(self.pieces(), t)
+    }
+
+    /// Adds a value over an interval that begins at or after the end of the last piece. After
+    /// [`NoMemory`] nothing has changed.
+    pub fn push(&mut self, over: Interval, value: T) -> Result<(), NoMemory>
+        requires { last_end self.old ≤ start_of over }
+        ensures ok { OnOk result (AreRuns (painted (value_at self.old) over value) self.new) }
+        ensures end { OnOk result (last_end self.new ≡ end_of over) }
+        ensures err { OnErr result (self.new ≡ self.old) }
+    {
+        push_piece(&mut self.pieces, over, value)
+    }
+
+    /// Sets the value at the instants of an interval. All other instants keep theirs. After
+    /// [`NoMemory`] nothing has changed.
+    pub fn paint(&mut self, over: Interval, value: T) -> Result<(), NoMemory>
+        ensures ok { OnOk result (AreRuns (painted (value_at self.old) over value) self.new) }
+        ensures err { OnErr result (self.new ≡ self.old) }
+    {
+        if end_of_pieces(&self.pieces) <= over.a() {
+            return self.push(over, value);
+        }
+        self.pieces = painted_pieces(*self.pieces.allocator(), &self.pieces, over, value)?;
+        Ok(())
+    }
+}
+
+impl Partition<u32> {
+    ghost use Rattle.std.specs.Prelude.{ℕ, IfSome, IsOk, length, ◌+◌, ◌^◌, ◌<◌};
+    ghost use Rattle.graphite_part.specs.Counts.{counted};
+
+    /// Adds to each value, at each instant, the number of `covers` that hold the instant. Instants
+    /// with no value have none still. Where there are no covers it takes no memory, and after
+    /// [`NoMemory`] nothing has changed.
+    pub fn add_counts(&mut self, covers: &[Interval]) -> Result<(), NoMemory>
+        requires { (t : ℕ) → IfSome (value_at self.old t) (λ n. n + length covers.now < 2 ^ 32) }
+        ensures ok { OnOk result (AreRuns (counted (value_at self.old) covers.now) self.new) }
+        ensures err { OnErr result (self.new ≡ self.old) }
+        ensures no_covers { length covers.now ≡ 0 → IsOk result }
+    {
+        if self.pieces.is_empty() || covers.is_empty() {
+            return Ok(());
+        }
+        let alloc = *self.pieces.allocator();
+        let starts = sorted_starts(alloc, covers)?;
+        let ends = sorted_ends(alloc, covers)?;
+        self.pieces = counted_pieces(alloc, &self.pieces, &starts, &ends)?;
+        Ok(())
+    }
+}
+
+/// A piece for each lifespan.
+fn pieces_on<T: Plain>(
+    alloc: Global,
+    spans: &[Interval],
+    value: T,
+) -> Result<Vec<Piece<T>>, NoMemory>
+    ensures { IfOk result (λ pieces. pieces.items ≡ map (piece_on value) spans.now) }
+{
+    let pieces = spans.iter().map(|over| Piece { over: *over, value });
+    Ok(pieces.collect(alloc)?)
+}
+
+/// The pieces, with a value painted over an interval.
+fn painted_pieces<T: Plain>(
+    alloc: Global,
+    pieces: &[Piece<T>],
+    over: Interval,
+    value: T,
+) -> Result<Vec<Piece<T>>, NoMemory>
+    requires { IsChain pieces.now }
+    ensures { IfOk result (λ out. AreRuns (painted (value_at pieces.now) over value) out.items) }
+{
+    let mut out = Vec::with_capacity(alloc, pieces.len())?;
+    copy_between(&mut out, pieces, 0, over.a())?;
+    push_piece(&mut out, over, value)?;
+    copy_between(&mut out, pieces, over.b(), LAST)?;
+    Ok(out)
+}
+
+#[cfg(test)]
+mod tests {
+    use super::*;
+    use std::process::Abort;
+    use std::test::Fail;
+
+    fn interval(a: u64, b: u64) -> Result<Interval, Fail> {
+        Ok(Interval::new(a, b).ok_or("an empty interval")?)
+    }
+
+    fn paint(partition: &mut Partition<u32>, a: u64, b: u64, value: u32) -> Result<(), Fail> {
+        let over = interval(a, b)?;
+        Ok(partition.paint(over, value)?)
+    }
+
+    fn assert_pieces(rt: &impl Abort, partition: &Partition<u32>, expected: &[(u64, u64, u32)]) {
+        let pieces = partition.pieces();
+        assert_eq!(rt; pieces.len(), expected.len());
+        for (piece, (a, b, value)) in pieces.iter().zip(expected) {
+            assert_eq!(rt; piece.over.a(), *a);
+            assert_eq!(rt; piece.over.b(), *b);
+            assert_eq!(rt; piece.value, *value);
+        }
+    }
+
+    #[test]
+    fn painted_pieces_join_and_split(rt: HostRuntime) -> Result<(), Fail> {
+        let mut partition = Partition::new(rt.alloc());
+        paint(&mut partition, 0, 4, 7)?;
+        paint(&mut partition, 4, 6, 7)?;
+        assert_pieces(&rt, &partition, &[(0, 6, 7)]);
+        paint(&mut partition, 2, 3, 1)?;
+        assert_pieces(&rt, &partition, &[(0, 2, 7), (2, 3, 1), (3, 6, 7)]);
+        assert_eq!(rt; partition.at(2), Some(1));
+        assert_eq!(rt; partition.at(5), Some(7));
+        assert_eq!(rt; partition.at(6), None);
+        Ok(())
+    }
+
+    #[test]
+    fn counts_are_added(rt: HostRuntime) -> Result<(), Fail> {
+        let life = Life::one(rt.alloc(), interval(0, 6)?)?;
+        let covers = [interval(0, 4)?, interval(2, 6)?];
+        let mut partition = Partition::on_life(rt.alloc(), &life, 0)?;
+        partition.add_counts(&covers)?;
+        assert_pieces(&rt, &partition, &[(0, 2, 1), (2, 4, 2), (4, 6, 1)]);
+        Ok(())
+    }
+
+    fn pushed_twice<T: Plain>(alloc: Global, x: T, y: T) -> Result<usize, Fail> {
+        let first = interval(0, 1)?;
+        let second = interval(1, 2)?;
+        let mut partition = Partition::new(alloc);
+        partition.push(first, x)?;
+        partition.paint(second, y)?;
+        Ok(partition.pieces().len())
+    }
+
+    #[test]
+    fn plain_values_join_where_they_are_equal(rt: HostRuntime) -> Result<(), Fail> {
+        assert_eq!(rt; pushed_twice(rt.alloc(), true, true)?, 1);
+        assert_eq!(rt; pushed_twice(rt.alloc(), 1u64, 2)?, 2);
+        assert_eq!(rt; pushed_twice(rt.alloc(), Some(1u32), None)?, 2);
+        assert_eq!(rt;
+            pushed_twice(rt.alloc(), (1u32, Some(false)), (1, Some(false)))?,
+            1
+        );
+        Ok(())
+    }
+}
