@@ -1,0 +1,5 @@
+pub mod ListLemmas
+pub mod MeetsLemmas
+pub mod PropertyLemmas
+pub mod TimelineLemmas
+pub mod StoreLemmas

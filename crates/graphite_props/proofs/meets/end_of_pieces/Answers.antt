@@ -1,0 +1,7 @@
+use Rattle.std.proofs.Common.{rules, of_calls}
+use Rattle.graphite_part.proofs.CopyLemmas.{last_end-read}
+use Rattle.graphite_props.proofs.meets.end_of_pieces.Goals as goal
+
+pub returns : goal.returns
+returns c =
+    last_end-read c.args.pieces.now c.last.result c.map_or.result c.last.ensures.value (search (rules, of_calls))

@@ -1,0 +1,18 @@
+//! Properties of numbered owners: for each owner and key a value over intervals of time.
+//!
+//! [`Timelines`] is seen in contracts as the list of its properties, in the order of adding.
+#![tactic(auto)]
+
+mod fault;
+mod keys;
+mod meets;
+mod places;
+mod row;
+mod timelines;
+
+pub use fault::AddFault;
+pub use row::PropRow;
+pub use timelines::Timelines;
+
+#[cfg(test)]
+mod tests;

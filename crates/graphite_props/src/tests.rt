@@ -1,0 +1,35 @@
+use super::*;
+use graphite_time::Interval;
+use std::test::Fail;
+
+fn interval(a: u64, b: u64) -> Result<Interval, Fail> {
+    Ok(Interval::new(a, b).ok_or("an empty interval")?)
+}
+
+#[test]
+fn touching_properties_join_and_overlapping_ones_are_refused(rt: HostRuntime) -> Result<(), Fail> {
+    let mut timelines = Timelines::new(rt.alloc());
+    let first = interval(0, 4)?;
+    let overlapping = interval(3, 5)?;
+    let touching = interval(4, 5)?;
+    assert_eq!(rt; timelines.add(0, b"k", first, 7), Ok(()));
+    assert_eq!(rt;
+        timelines.add(0, b"k", overlapping, 7),
+        Err(AddFault::Overlap)
+    );
+    assert_eq!(rt; timelines.add(0, b"k", touching, 7), Ok(()));
+
+    let timeline = timelines.timeline(0, b"k").ok_or("no timeline")?;
+    assert_eq!(rt; timeline.pieces().len(), 1);
+    assert_eq!(rt; timeline.pieces()[0].over, interval(0, 5)?);
+    assert_eq!(rt; timeline.pieces()[0].value, 7);
+
+    let rows = timelines.rows();
+    assert_eq!(rt; rows.len(), 2);
+    assert_eq!(rt; rows[0].over, first);
+    assert_eq!(rt; rows[1].over, touching);
+    assert_eq!(rt; rows[1].value, 7);
+    assert_eq!(rt; rows[1].key, 0);
+    assert_eq!(rt; timelines.key_name(0), b"k".as_slice());
+    Ok(())
+}
