@@ -1,0 +1,9 @@
+pub mod ListLemmas
+pub mod LifeLemmas
+pub mod StoreLemmas
+pub mod LineLemmas
+pub mod StepLemmas
+pub mod RecordLemmas
+pub mod ReadingLemmas
+pub mod PropertyLemmas
+pub mod ShowLemmas

@@ -1,0 +1,72 @@
+ghost use Rattle.std.specs.Prelude.{◌≡◌, ◌<◌, ◌^◌, [], ◌∷◌, ◌++◌, Some, slice_get, length, position, is_none, if◌then◌else◌, IfSome, IfOk, OnErr};
+ghost use Rattle.std.specs.Str.{bytes_eq};
+
+use graphite_time::NoMemory;
+use indexmap::IndexSet;
+use std::alloc::Global;
+use std::marker::Model;
+
+/// Names of bytes, all different, numbered from 0 in the order in which they were inserted. They
+/// stay in the text that they were read from.
+#[derive(Drop)]
+pub struct Names<'a> {
+    set: IndexSet<&'a [u8]>,
+}
+
+impl<'a> Model for Names<'a> {
+    ghost use Rattle.std.specs.Prelude.{List, ℕ, map, length, ◌≤◌, ◌^◌};
+
+    ghost Value = { List (List ℕ) };
+
+    ghost view = { λ names. map (λ name. name.now) names.set.keys };
+
+    ghost invariant = { λ names. length names.set.keys ≤ 2 ^ 22 };
+}
+
+impl<'a> Names<'a> {
+    /// No names.
+    pub fn new(alloc: Global) -> Names<'a>
+        ensures { result ≡ [] }
+    {
+        Names {
+            set: IndexSet::new(alloc),
+        }
+    }
+
+    /// How many names there are.
+    pub fn len(&self) -> u32
+        ensures { result ≡ length self.now }
+    {
+        self.set.len() as u32
+    }
+
+    /// The number of a name.
+    pub fn number_of(&self, name: &[u8]) -> Option<u32>
+        ensures number { result ≡ position (bytes_eq name.now) self.now }
+        ensures within { IfSome result (λ number. number < length self.now) }
+    {
+        match self.set.get_index_of(name) {
+            Some(number) => Some(number as u32),
+            None => None,
+        }
+    }
+
+    /// The name with a number.
+    pub fn name_at(&self, number: u32) -> &'a [u8]
+        requires { number < length self.now }
+        ensures { slice_get self.now number ≡ Some result.now }
+    {
+        self.set.as_slice()[number as usize]
+    }
+
+    /// Adds a name, and answers `true`, where it is new. Where it is not, nothing changes.
+    pub fn insert(&mut self, name: &'a [u8]) -> Result<bool, NoMemory>
+        requires { length self.old < 2 ^ 22 }
+        ensures added { IfOk result (λ added. added ≡ is_none (position (bytes_eq name.now) self.old)) }
+        ensures names { IfOk result (λ added. self.new ≡ (if added then self.old ++ name.now ∷ [] else self.old)) }
+        ensures err { OnErr result (self.new ≡ self.old) }
+    {
+        let (_, added) = self.set.insert_full(name)?;
+        Ok(added)
+    }
+}
