@@ -1,0 +1,7 @@
+-- How a text goes through a buffer to a sink.
+use Rattle.std.specs.Prelude.{◌≡◌, ℕ, List, ◌++◌, Option}
+use Rattle.std.specs.Io.KnownBytes.{Appends}
+
+-- what was sent, what the buffer holds and what is still to come make the text
+abbrev pub Through : (old new : Option (List ℕ)) → (buffer rest text : List ℕ) → Type 0
+Through old new buffer rest text = (sent : List ℕ) × Appends old new sent × ((sent ++ buffer) ++ rest ≡ text)

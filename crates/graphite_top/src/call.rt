@@ -1,0 +1,137 @@
+ghost use Rattle.std.specs.Prelude.{◌≡◌, ◌≢◌, ◌≤◌, ℕ, Bool, true, false, map, length, string_bytes, IfOk, IfSome, IsSome};
+ghost use Rattle.std.specs.Io.KnownBytes.{Keeps};
+ghost use Rattle.graphite_base.specs.Causes.{Rose};
+ghost use Rattle.graphite_base.specs.Known.{IsEmptied};
+ghost use Rattle.graphite_text.specs.Canonical.{canonical_text};
+ghost use Rattle.graphite_text.specs.Reading.{text_limit};
+ghost use Rattle.graphite_top.specs.Output.{command_of, output_of, text_answer, report_of, words_refusal, text_refusal};
+ghost use Rattle.graphite_top.specs.Call.{Answers, Writes, Gives, IsWritten, IsReadThrough};
+
+use crate::Status;
+use crate::degree::write_degree;
+use crate::words::{Command, command_of};
+use graphite_base::{ReadText, Sink, Source, push_number, read_text, write_all};
+use graphite_graph::{Graph, LoadFault, load};
+use graphite_time::NoMemory;
+use std::alloc::Global;
+
+/// The most bytes that a text may have.
+const TEXT_LIMIT: usize = 268_435_456;
+
+/// The rule that a longer text breaks.
+const LENGTH_RULE: u8 = 16;
+
+/// Does what the words ask for with the text of the source, and writes the report or the refusal to
+/// the sink: the whole of the program, once it has its words. `words` are those after the program's
+/// own name. Where they are refused, the source is not touched.
+pub fn run<S: Source, K: Sink>(
+    alloc: Global,
+    words: &[String],
+    source: &mut S,
+    sink: &mut K,
+) -> Status
+    // The status and the text of the answer, or a front of that text.
+    ensures answer { IfSome (output_of (map string_bytes words.now) (S.left source.old))
+        (λ answer. Answers result answer (K.written sink.old) (K.written sink.new)) }
+
+    // Without a fault, and with memory, the answer is given whole.
+    ensures complete { ¬ Rose (S.faults source.old) (S.faults source.new)
+        → ¬ Rose (K.faults sink.old) (K.faults sink.new)
+        → result ≢ Status.NoMemory
+        → IfSome (output_of (map string_bytes words.now) (S.left source.old))
+        (λ answer. Gives result answer (K.written sink.old) (K.written sink.new)) }
+
+    // When each fault comes.
+    ensures read_fault { result ≡ Status.ReadFault
+        → IsSome (command_of (map string_bytes words.now)) × Rose (S.faults source.old) (S.faults source.new) }
+    ensures nothing_written { result ≡ Status.ReadFault → Keeps (K.written sink.old) (K.written sink.new) }
+    ensures write_fault { result ≡ Status.WriteFault → Rose (K.faults sink.old) (K.faults sink.new) }
+    ensures words_refused { result ≡ Status.WordsRefused → command_of (map string_bytes words.now) ≡ None }
+
+    // What becomes of the source.
+    ensures untouched { command_of (map string_bytes words.now) ≡ None → source.new ≡ source.old }
+    ensures emptied { IsReadThrough result (S.left source.old) (S.left source.new) }
+
+    // No count of faults falls.
+    ensures later { (S.faults source.old ≤ S.faults source.new) × (K.faults sink.old ≤ K.faults sink.new) }
+{
+    let Some(command) = command_of(words) else {
+        return write(sink, b"refused words\n", Status::WordsRefused);
+    };
+    match read_text(alloc, source, TEXT_LIMIT) {
+        Ok(text) => answer_text(alloc, command, &text, sink),
+        Err(ReadText::TooLong) => refuse_text(alloc, 0, LENGTH_RULE, sink),
+        Err(ReadText::Failed) => Status::ReadFault,
+        Err(ReadText::NoMemory) => Status::NoMemory,
+    }
+}
+
+/// Writes the answer to a text.
+fn answer_text<K: Sink>(alloc: Global, command: Command, text: &[u8], sink: &mut K) -> Status
+    ensures writes { Writes result (text_answer command text.now) (K.written sink.old) (K.written sink.new) (K.faults sink.old) (K.faults sink.new) }
+    ensures later { K.faults sink.old ≤ K.faults sink.new }
+{
+    match load(alloc, text) {
+        Ok(graph) => report(alloc, command, &graph, sink),
+        Err(LoadFault::Rule { line, rule }) => refuse_text(alloc, line, rule, sink),
+        Err(LoadFault::NoMemory) => Status::NoMemory,
+    }
+}
+
+/// Writes what the program writes for a graph.
+fn report<K: Sink>(alloc: Global, command: Command, graph: &Graph<'_>, sink: &mut K) -> Status
+    ensures writes { Writes result (record { status = Status.Done; text = report_of command graph.now }) (K.written sink.old) (K.written sink.new) (K.faults sink.old) (K.faults sink.new) }
+    ensures later { K.faults sink.old ≤ K.faults sink.new }
+{
+    match command {
+        Command::Degree => write_degree(alloc, graph, sink),
+        Command::Show => write_shown(alloc, graph, sink),
+    }
+}
+
+/// Writes the canonical text of a graph.
+fn write_shown<K: Sink>(alloc: Global, graph: &Graph<'_>, sink: &mut K) -> Status
+    ensures writes { Writes result (record { status = Status.Done; text = canonical_text graph.now }) (K.written sink.old) (K.written sink.new) (K.faults sink.old) (K.faults sink.new) }
+    ensures later { K.faults sink.old ≤ K.faults sink.new }
+{
+    let mut text = Vec::new(alloc);
+    match graph.show(&mut text) {
+        Ok(()) => write(sink, &text, Status::Done),
+        Err(_) => Status::NoMemory,
+    }
+}
+
+/// The refusal of a text.
+fn refusal_of(alloc: Global, line: u32, rule: u8) -> Result<Vec<u8>, NoMemory>
+    ensures { IfOk result (λ text. text.items ≡ (text_refusal line rule).text) }
+{
+    let mut text = Vec::from_slice(alloc, b"refused text line ")?;
+    push_number(&mut text, u128::from(line))?;
+    text.extend_from_slice(b" rule ")?;
+    push_number(&mut text, u128::from(rule))?;
+    text.extend_from_slice(b"\n")?;
+    Ok(text)
+}
+
+/// Writes the refusal of a text.
+fn refuse_text<K: Sink>(alloc: Global, line: u32, rule: u8, sink: &mut K) -> Status
+    ensures writes { Writes result (text_refusal line rule) (K.written sink.old) (K.written sink.new) (K.faults sink.old) (K.faults sink.new) }
+    ensures later { K.faults sink.old ≤ K.faults sink.new }
+{
+    match refusal_of(alloc, line, rule) {
+        Ok(text) => write(sink, &text, Status::TextRefused),
+        Err(_) => Status::NoMemory,
+    }
+}
+
+/// Writes a whole text that comes with a status.
+fn write<K: Sink>(sink: &mut K, text: &[u8], status: Status) -> Status
+    requires { IsWritten status }
+    ensures writes { Writes result (record { status = status; text = text.now }) (K.written sink.old) (K.written sink.new) (K.faults sink.old) (K.faults sink.new) }
+    ensures later { K.faults sink.old ≤ K.faults sink.new }
+{
+    match write_all(sink, text) {
+        Ok(()) => status,
+        Err(_) => Status::WriteFault,
+    }
+}

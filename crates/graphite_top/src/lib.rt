@@ -1,0 +1,15 @@
+//! The top call: words and a text come in, a report or a refusal goes out.
+#![tactic(auto)]
+
+mod call;
+mod degree;
+mod departure;
+mod report;
+mod status;
+mod words;
+
+pub use call::run;
+pub use status::Status;
+
+#[cfg(test)]
+mod tests;

@@ -1,0 +1,36 @@
+ghost use Rattle.std.specs.Prelude.{◌≡◌};
+
+/// How a call of the program ended.
+#[derive(Clone, Copy, Debug, PartialEq, Eq)]
+pub enum Status {
+    /// The report was written.
+    Done,
+    /// The text is no graph text; a refusal was written.
+    TextRefused,
+    /// The words are no command; a refusal was written, and the source was not touched.
+    WordsRefused,
+    /// A read failed; nothing was written.
+    ReadFault,
+    /// A write failed; a front of what would have come was written.
+    WriteFault,
+    /// Memory could not be had; a front of what would have come was written.
+    NoMemory,
+}
+
+impl Status {
+    ghost use Rattle.graphite_top.specs.Status.{code_of};
+
+    /// The exit status of the program.
+    pub fn code(self) -> u8
+        ensures { result ≡ code_of self }
+    {
+        match self {
+            Status::Done => 0,
+            Status::TextRefused => 1,
+            Status::WordsRefused => 2,
+            Status::ReadFault => 5,
+            Status::WriteFault => 6,
+            Status::NoMemory => 7,
+        }
+    }
+}

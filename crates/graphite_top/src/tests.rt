@@ -1,0 +1,161 @@
+use super::*;
+use graphite_base::{ScriptSink, ScriptSource, SliceSource, VecSink};
+use std::alloc::{AllocError, Global};
+use std::process::Abort;
+use std::test::Fail;
+
+/// Three vertices, of which one lives shorter, and two edges.
+const STOPS: &[u8] = b"graph 1 10\nv a 0 10\nv b 0 10\nv c 2 8\ne ab a b 0 5\ne bc b c 3 7\nend\n";
+
+const STOPS_REPORT: &[u8] =
+    b"graphite degree steps 0 calls 0\na 0 5 1\na 5 10 0\nb 0 3 0\nb 3 7 1\nb 7 10 0\nc 2 8 0\nend\n";
+
+fn words_of(alloc: Global, words: &[&str]) -> Result<Vec<String>, AllocError> {
+    let mut all = Vec::new(alloc);
+    for word in words {
+        all.push(String::from_str(alloc, word)?)?;
+    }
+    Ok(all)
+}
+
+/// Runs one word on a text, and compares what it writes.
+fn expect_run(
+    rt: &impl Abort,
+    alloc: Global,
+    word: &str,
+    text: &[u8],
+    status: Status,
+    written: &[u8],
+) -> Result<(), Fail> {
+    let words = words_of(alloc, &[word])?;
+    let mut source = SliceSource::new(text);
+    let mut sink = VecSink::new(alloc, 4096)?;
+    assert_eq!(rt; run(alloc, &words, &mut source, &mut sink), status);
+    assert_eq!(rt; sink.written(), written);
+    Ok(())
+}
+
+#[test]
+fn worked_runs(rt: HostRuntime) -> Result<(), Fail> {
+    let cases: [(&str, &[u8], &[u8]); 4] = [
+        ("degree", STOPS, STOPS_REPORT),
+        (
+            "degree",
+            b"graph 1 1\nend\n",
+            b"graphite degree steps 0 calls 0\nend\n",
+        ),
+        // equal neighbours are one line, and edges that overlap count twice
+        (
+            "degree",
+            b"graph 1 6\nv a 0 6\nv b 0 6\ne x a b 0 3\ne y a b 3 6\ne z b a 1 4\ne w b b 2 3\nend\n",
+            b"graphite degree steps 0 calls 0\na 0 6 1\nb 0 1 0\nb 1 2 1\nb 2 3 2\nb 3 4 1\nb 4 6 0\nend\n",
+        ),
+        (
+            "show",
+            b"# bus\ngraph 1 10\n\nv a 0 10\npv a load 0 4 7\nv b 0 10\ne ab a b 0 5\npe ab cost 0 5 3\npv b load 2 6 3\nend\n# done\n",
+            b"graph 1 10\nv a 0 10\nv b 0 10\ne ab a b 0 5\npv a load 0 4 7\npv b load 2 6 3\npe ab cost 0 5 3\nend\n",
+        ),
+    ];
+    for (word, text, written) in cases {
+        expect_run(&rt, rt.alloc(), word, text, Status::Done, written)?;
+    }
+    Ok(())
+}
+
+#[test]
+fn texts_that_are_refused(rt: HostRuntime) -> Result<(), Fail> {
+    let cases: [(&[u8], &[u8]); 7] = [
+        // an edge outlives one of its ends
+        (
+            b"graph 1 10\nv a 0 10\nv b 0 10\nv c 2 8\ne ac a c 0 5\ne bc b c 3 7\nend\n",
+            b"refused text line 5 rule 9\n",
+        ),
+        // it goes past the horizon too
+        (
+            b"graph 1 10\nv a 0 10\nv b 0 10\nv c 2 8\ne ac a c 0 12\ne bc b c 3 7\nend\n",
+            b"refused text line 5 rule 6\n",
+        ),
+        (
+            b"graph 1 10\nv a 0 10\nv b 0 10\nv c 2 8\ne ab a b 0 5\ne bc b c 3 7\n",
+            b"refused text line 7 rule 14\n",
+        ),
+        (
+            b"graph 1 10\nv a 0 10\nend\nv d 0 1\n",
+            b"refused text line 4 rule 15\n",
+        ),
+        (b"graph 1 10\nv a 0 1", b"refused text line 2 rule 1\n"),
+        (b"", b"refused text line 1 rule 14\n"),
+        (b"graph 2 10\nend\n", b"refused text line 1 rule 2\n"),
+    ];
+    for (text, written) in cases {
+        expect_run(
+            &rt,
+            rt.alloc(),
+            "degree",
+            text,
+            Status::TextRefused,
+            written,
+        )?;
+    }
+    Ok(())
+}
+
+#[test]
+fn words_that_are_refused(rt: HostRuntime) -> Result<(), Fail> {
+    let alloc = rt.alloc();
+    let lists: [&[&str]; 4] = [
+        &[],
+        &["frob"],
+        &["degree", "extra"],
+        &["degree", "--steps", "3"],
+    ];
+    for list in lists {
+        let words = words_of(alloc, list)?;
+        let mut source = SliceSource::new(STOPS);
+        let mut sink = VecSink::new(alloc, 4096)?;
+        assert_eq!(rt;
+            run(alloc, &words, &mut source, &mut sink),
+            Status::WordsRefused
+        );
+        assert_eq!(rt; sink.written(), b"refused words\n".as_slice());
+    }
+    Ok(())
+}
+
+#[test]
+fn a_failing_source_and_a_failing_sink(rt: HostRuntime) -> Result<(), Fail> {
+    let alloc = rt.alloc();
+    let words = words_of(alloc, &["degree"])?;
+
+    let mut source = ScriptSource::new(alloc, STOPS, &[4], &[2])?;
+    let mut sink = VecSink::new(alloc, 100)?;
+    assert_eq!(rt;
+        run(alloc, &words, &mut source, &mut sink),
+        Status::ReadFault
+    );
+    assert_eq!(rt; sink.written(), b"".as_slice());
+
+    let mut source = SliceSource::new(STOPS);
+    let mut sink = ScriptSink::new(alloc, 100, &[1], &[2])?;
+    assert_eq!(rt;
+        run(alloc, &words, &mut source, &mut sink),
+        Status::WriteFault
+    );
+    assert_eq!(rt; sink.written(), b"g".as_slice());
+    Ok(())
+}
+
+#[test]
+fn exit_statuses(rt: HostRuntime) {
+    let statuses = [
+        (Status::Done, 0),
+        (Status::TextRefused, 1),
+        (Status::WordsRefused, 2),
+        (Status::ReadFault, 5),
+        (Status::WriteFault, 6),
+        (Status::NoMemory, 7),
+    ];
+    for (status, code) in statuses {
+        assert_eq!(rt; status.code(), code);
+    }
+}
