@@ -1,0 +1,104 @@
+#!/usr/bin/env python3
+"""Times the built program on graph texts of growing size, and says how its time grows.
+
+    bench/grow.py [--word degree|show] [--properties] [--program PATH] [--peer PATH]
+                  [--edges N[,N..]] [--repeat N] [--seed N]
+
+For each number of edges N a text of N vertices and N edges is made, on a horizon of 1,000,000,000
+instants: lives and edges are spread at random. With --properties each vertex has a property and each
+edge two, on its whole life. The program runs the word on it, pinned to one processor. A line gives
+the least wall time and the peak memory; with --peer another program is run on the same text, and its
+bytes have to be the same. The last line is the exponent with which the time grows from the least to
+the greatest N.
+"""
+import argparse
+import math
+import os
+import random
+import subprocess
+import sys
+import tempfile
+import time
+
+TOP = os.path.dirname(os.path.dirname(os.path.abspath(__file__)))
+HORIZON = 1_000_000_000
+
+
+def make_text(path, count, seed, properties):
+    draw = random.Random(seed)
+    middle = HORIZON // 2
+    lives, spans = [], []
+    with open(path, 'w') as out:
+        out.write('graph 1 %d\n' % HORIZON)
+        for v in range(count):
+            life = (draw.randrange(middle), middle + draw.randrange(HORIZON - middle + 1))
+            life = (life[0], max(life[1], middle + 1))
+            lives.append(life)
+            out.write('v v%d %d %d\n' % (v, life[0], life[1]))
+        for e in range(count):
+            u, w = draw.randrange(count), draw.randrange(count)
+            first, last = max(lives[u][0], lives[w][0]), min(lives[u][1], lives[w][1])
+            a = first + draw.randrange(last - first)
+            b = a + 1 + draw.randrange(last - a)
+            spans.append((a, b))
+            out.write('e e%d v%d v%d %d %d\n' % (e, u, w, a, b))
+        if properties:
+            for v, (a, b) in enumerate(lives):
+                out.write('pv v%d size %d %d %d\n' % (v, a, b, draw.randrange(1000)))
+            for e, (a, b) in enumerate(spans):
+                out.write('pe e%d time %d %d %d\n' % (e, a, b, 1 + draw.randrange(4)))
+                out.write('pe e%d cost %d %d %d\n' % (e, a, b, draw.randrange(10)))
+        out.write('end\n')
+
+
+def run(program, word, text, out):
+    """Wall seconds and peak memory in MB of one run."""
+    with open(text, 'rb') as given, open(out, 'wb') as taken:
+        start = time.monotonic()
+        child = subprocess.Popen([program, word], stdin=given, stdout=taken)
+        os.sched_setaffinity(child.pid, {min(os.sched_getaffinity(0))})
+        _, status, usage = os.wait4(child.pid, 0)
+        child.returncode = os.waitstatus_to_exitcode(status)
+        if child.returncode != 0:
+            sys.exit('%s ended with status %d' % (program, child.returncode))
+        return time.monotonic() - start, usage.ru_maxrss / 1024
+
+
+def best(program, word, text, out, repeat):
+    runs = [run(program, word, text, out) for _ in range(repeat)]
+    return min(seconds for seconds, _ in runs), min(peak for _, peak in runs)
+
+
+def main():
+    ask = argparse.ArgumentParser(description=__doc__, formatter_class=argparse.RawDescriptionHelpFormatter)
+    ask.add_argument('--program', default=os.path.join(TOP, 'crates/graphite/out/graphite'))
+    ask.add_argument('--word', default='degree')
+    ask.add_argument('--properties', action='store_true')
+    ask.add_argument('--peer')
+    ask.add_argument('--edges', default='125000,250000,500000,1000000')
+    ask.add_argument('--repeat', type=int, default=3)
+    ask.add_argument('--seed', type=int, default=1)
+    args = ask.parse_args()
+    times = []
+    with tempfile.TemporaryDirectory() as folder:
+        text, out, other = (os.path.join(folder, name) for name in ('text', 'out', 'other'))
+        for count in (int(n) for n in args.edges.split(',')):
+            make_text(text, count, args.seed, args.properties)
+            seconds, peak = best(args.program, args.word, text, out, args.repeat)
+            times.append((count, seconds))
+            line = '%9d edges  %6.1f MB text  %6.2f s  %6.0f MB' % (
+                count, os.path.getsize(text) / 1e6, seconds, peak)
+            if args.peer:
+                peer_seconds, peer_peak = best(args.peer, args.word, text, other, args.repeat)
+                same = open(out, 'rb').read() == open(other, 'rb').read()
+                line += '   peer %6.2f s  %6.0f MB   ratios %.2f %.2f   %s' % (
+                    peer_seconds, peer_peak, seconds / peer_seconds, peak / peer_peak,
+                    'same bytes' if same else 'OTHER BYTES')
+            print(line, flush=True)
+    if len(times) > 1:
+        (n, s), (m, t) = times[0], times[-1]
+        print('exponent from %d to %d: %.2f' % (n, m, math.log(t / s) / math.log(m / n)))
+
+
+if __name__ == '__main__':
+    main()
