@@ -100,6 +100,39 @@ fn texts_that_are_refused(rt: HostRuntime) -> Result<(), Fail> {
     Ok(())
 }
 
+/// The text of the stops with a line put in before its end, as line 7.
+fn with_line(alloc: Global, line: &[u8]) -> Result<Vec<u8>, AllocError> {
+    let mut text = Vec::new(alloc);
+    text.extend_from_slice(
+        b"graph 1 10\nv a 0 10\nv b 0 10\nv c 2 8\ne ab a b 0 5\ne bc b c 3 7\n",
+    )?;
+    text.extend_from_slice(line)?;
+    text.extend_from_slice(b"\nend\n")?;
+    Ok(text)
+}
+
+#[test]
+fn lines_at_their_limits(rt: HostRuntime) -> Result<(), Fail> {
+    let alloc = rt.alloc();
+    let comment = [b'#'; 1024];
+    let longer = [b'#'; 1025];
+    let name = b"v xxxxxxxxxxxxxxxxxxxxxxxxxxxxxxxxxxxxxxxxxxxxxxxxxxxxxxxxxxxxxxxxx 0 1";
+    let cases: [(&[u8], Status, &[u8]); 3] = [
+        (&comment, Status::Done, STOPS_REPORT),
+        (
+            &longer,
+            Status::TextRefused,
+            b"refused text line 7 rule 1\n",
+        ),
+        (name, Status::TextRefused, b"refused text line 7 rule 4\n"),
+    ];
+    for (line, status, written) in cases {
+        let text = with_line(alloc, line)?;
+        expect_run(&rt, alloc, "degree", &text, status, written)?;
+    }
+    Ok(())
+}
+
 #[test]
 fn words_that_are_refused(rt: HostRuntime) -> Result<(), Fail> {
     let alloc = rt.alloc();
