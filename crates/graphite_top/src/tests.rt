@@ -133,6 +133,16 @@ fn lines_at_their_limits(rt: HostRuntime) -> Result<(), Fail> {
     Ok(())
 }
 
+/// Three instants, far apart, in a life that ends at the last instant of all.
+#[test]
+fn instants_near_the_last(rt: HostRuntime) -> Result<(), Fail> {
+    let text =
+        b"graph 1 17592186044416\nv central 0 17592186044416\nv museum 0 17592186044416\nv harbour 0 17592186044416\ne t1 central museum 1700000000000 1700000000001\ne t2 museum harbour 1700000420000 1700000420001\ne t3 museum harbour 1700000240000 1700000240001\npe t1 time 1700000000000 1700000000001 300000\npe t2 time 1700000420000 1700000420001 600000\npe t3 time 1700000240000 1700000240001 240000\nend\n";
+    let written =
+        b"graphite degree steps 0 calls 0\ncentral 0 1700000000000 0\ncentral 1700000000000 1700000000001 1\ncentral 1700000000001 17592186044416 0\nmuseum 0 1700000240000 0\nmuseum 1700000240000 1700000240001 1\nmuseum 1700000240001 1700000420000 0\nmuseum 1700000420000 1700000420001 1\nmuseum 1700000420001 17592186044416 0\nharbour 0 17592186044416 0\nend\n";
+    expect_run(&rt, rt.alloc(), "degree", text, Status::Done, written)
+}
+
 #[test]
 fn words_that_are_refused(rt: HostRuntime) -> Result<(), Fail> {
     let alloc = rt.alloc();
