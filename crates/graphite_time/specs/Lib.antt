@@ -1,2 +1,3 @@
 pub mod Interval
 pub mod Life
+pub mod Meet

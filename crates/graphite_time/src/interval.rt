@@ -2,6 +2,8 @@ ghost use Rattle.std.specs.Prelude.{◌≡◌, ◌<◌, ◌≤◌, ◌↔◌, �
 ghost use Rattle.graphite_time.specs.declared.TheConstants.{LAST};
 
 use crate::LAST;
+use std::alloc::Global;
+use std::default::MadeWith;
 
 /// The instants from a start up to an end, the end not among them. An interval holds at least one
 /// instant, and ends at most at [`LAST`].
@@ -12,8 +14,16 @@ pub struct Interval {
     ghost proper: { (a < b) × (b ≤ LAST) },
 }
 
+/// What an unused place of a short list of intervals holds: the first instant.
+impl MadeWith<Global> for Interval {
+    fn made_with(_alloc: Global) -> Interval {
+        Interval { a: 0, b: 1 }
+    }
+}
+
 impl Interval {
     ghost use Rattle.graphite_time.specs.Interval.{start_of, end_of, holds};
+    ghost use Rattle.graphite_time.specs.Meet.{meet_of};
 
     /// The instants from `a` to `b - 1`. `None` exactly where there are none, or `b` is past
     /// [`LAST`].
@@ -56,6 +66,7 @@ impl Interval {
     pub fn meet(self, other: Interval) -> Option<Interval>
         ensures apart { IfNone result ((t : ℕ) → (holds self t && holds other t) ≡ false) }
         ensures common { IfSome result (λ over. (t : ℕ) → holds over t ≡ holds self t && holds other t) }
+        ensures meet { result ≡ meet_of self other }
     {
         Interval::new(self.a.max(other.a), self.b.min(other.b))
     }

@@ -1,4 +1,4 @@
-ghost use Rattle.std.specs.Prelude.{◌≡◌, ◌↔◌, ◌∷◌, [], ℕ, IsTrue, IsOk, IfOk};
+ghost use Rattle.std.specs.Prelude.{◌≡◌, ◌↔◌, ◌≤◌, ◌∷◌, [], ℕ, length, IsTrue, IsOk, IfOk};
 ghost use Rattle.graphite_time.specs.Interval.{holds};
 ghost use Rattle.graphite_time.specs.Life.{is_held, lifespan_at, IsLife};
 
@@ -34,6 +34,16 @@ impl Life {
     {
         let spans = SmallVec::from_buf(alloc, [over]);
         Ok(Life { spans })
+    }
+
+    /// An equal life. That of one lifespan takes no memory, and is never refused.
+    pub fn copy(&self) -> Result<Life, NoMemory>
+        ensures same { IfOk result (λ life. life ≡ self.now) }
+        ensures takes_no_memory { length self.now ≤ 1 → IsOk result }
+    {
+        Ok(Life {
+            spans: SmallVec::from_slice(*self.spans.allocator(), self.spans())?,
+        })
     }
 
     /// The lifespans, in order.
@@ -134,6 +144,8 @@ mod tests {
         let life = Life::one(rt.alloc(), long)?;
         assert_holds(&rt, &life, 0, Some(long));
         assert_holds(&rt, &life, 10, None);
+        let copied = life.copy()?;
+        assert_holds(&rt, &copied, 9, Some(long));
         assert_covers(&rt, &life, &[(0, 10, true), (2, 4, true), (9, 11, false)]);
         Ok(())
     }
