@@ -1,5 +1,9 @@
 pub mod CopyLemmas
 pub mod CountLemmas
+pub mod CutLemmas
 pub mod Examples
 pub mod FillLemmas
+pub mod MapLemmas
 pub mod PiecesLemmas
+pub mod SweepLemmas
+pub mod ZipLemmas

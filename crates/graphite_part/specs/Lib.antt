@@ -1,5 +1,7 @@
+pub mod Calls
 pub mod Counts
 pub mod Fills
+pub mod Kept
 pub mod Pieces
 pub mod Plain
 pub mod PlainLaws

@@ -33,3 +33,7 @@ pair_exact cmp cmp' exact exact' (x, u) (y, v) h =
     let first = exact x y both.0 in
     let second = exact' u v both.1 in
     cc
+
+-- what is not known to be small owes nothing
+pub not_small : {A : Type 0} → false ≡ true → A
+not_small e = cc

@@ -4,6 +4,7 @@ ghost use Rattle.graphite_part.specs.Pieces.{value_at, value_on, painted, last_e
 
 use crate::counts::{counted_pieces, sorted_ends, sorted_starts};
 use crate::fill::{copy_between, end_of_pieces, push_piece, value_in};
+use crate::pieces::{Pieces, pushed};
 use crate::{Piece, Plain};
 use graphite_time::{Interval, LAST, Life, NoMemory};
 use std::alloc::Global;
@@ -13,19 +14,21 @@ use std::marker::Model;
 /// that touch have different values.
 #[derive(Drop)]
 pub struct Partition<T: Plain> {
-    pieces: Vec<Piece<T>>,
+    pieces: Pieces<T>,
 }
 
 impl<T: Plain> Model for Partition<T> {
-    ghost use Rattle.std.specs.Prelude.{List};
+    ghost use Rattle.std.specs.Prelude.{◌≡◌, true, List};
     ghost use Rattle.graphite_part.specs.declared.piece.Piece.{Piece};
+    ghost use Rattle.graphite_part.specs.Kept.{items_of, IsInPlace};
     ghost use Rattle.graphite_part.specs.Pieces.{IsChain};
 
     ghost Value = { List (Piece T) };
 
-    ghost view = { λ partition. partition.pieces.items };
+    ghost view = { λ partition. items_of partition.pieces };
 
-    ghost invariant = { λ partition. IsChain partition.pieces.items };
+    ghost invariant = { λ partition. IsChain (items_of partition.pieces)
+        × (IsInPlace partition.pieces → T.is_small ≡ true) };
 }
 
 impl<T: Plain> Partition<T> {
@@ -33,9 +36,7 @@ impl<T: Plain> Partition<T> {
     pub fn new(alloc: Global) -> Partition<T>
         ensures { result ≡ [] }
     {
-        Partition {
-            pieces: Vec::new(alloc),
-        }
+        Partition::from_pieces(Vec::new(alloc))
     }
 
     /// The value at exactly the instants of the life.
@@ -43,7 +44,22 @@ impl<T: Plain> Partition<T> {
         ensures { IfOk result (AreRuns (value_on life.now value)) }
     {
         let pieces = pieces_on(alloc, life.spans(), value)?;
-        Ok(Partition { pieces })
+        Ok(Partition::from_pieces(pieces))
+    }
+
+    /// The partition of a chain of pieces.
+    pub(crate) fn from_pieces(pieces: Vec<Piece<T>>) -> Partition<T>
+        requires { IsChain pieces.items }
+        ensures { result ≡ pieces.items }
+    {
+        Partition {
+            pieces: Pieces::Many(pieces),
+        }
+    }
+
+    /// What the pieces take their memory from.
+    pub(crate) fn allocator(&self) -> Global {
+        self.pieces.allocator()
     }
 
     /// The pieces, in order.
@@ -51,7 +67,7 @@ impl<T: Plain> Partition<T> {
         ensures pieces { result.now ≡ self.now }
         ensures chain { IsChain self.now }
     {
-        &self.pieces
+        self.pieces.as_slice()
     }
 
     /// The value at the instant. `None` exactly where no piece holds it.
@@ -69,7 +85,12 @@ impl<T: Plain> Partition<T> {
         ensures end { OnOk result (last_end self.new ≡ end_of over) }
         ensures err { OnErr result (self.new ≡ self.old) }
     {
-        push_piece(&mut self.pieces, over, value)
+        if let Pieces::Many(pieces) = &mut self.pieces {
+            return push_piece(pieces, over, value);
+        }
+        let pieces = pushed(self.allocator(), self.pieces(), over, value)?;
+        self.pieces = Pieces::Many(pieces);
+        Ok(())
     }
 
     /// Sets the value at the instants of an interval. All other instants keep theirs. After
@@ -78,17 +99,30 @@ impl<T: Plain> Partition<T> {
         ensures ok { OnOk result (AreRuns (painted (value_at self.old) over value) self.new) }
         ensures err { OnErr result (self.new ≡ self.old) }
     {
-        if end_of_pieces(&self.pieces) <= over.a() {
+        if end_of_pieces(self.pieces()) <= over.a() {
             return self.push(over, value);
         }
-        self.pieces = painted_pieces(*self.pieces.allocator(), &self.pieces, over, value)?;
+        let painted = painted_pieces(self.allocator(), self.pieces(), over, value)?;
+        self.pieces = Pieces::Many(painted);
         Ok(())
     }
 }
 
 impl Partition<u32> {
-    ghost use Rattle.std.specs.Prelude.{ℕ, IfSome, IsOk, length, ◌+◌, ◌^◌, ◌<◌};
+    ghost use Rattle.std.specs.Prelude.{ℕ, IfSome, IsOk, length, ◌∷◌, ◌+◌, ◌^◌, ◌<◌};
     ghost use Rattle.graphite_part.specs.Counts.{counted};
+
+    /// One value over an interval. It takes no memory.
+    pub fn one(alloc: Global, over: Interval, value: u32) -> Partition<u32>
+        ensures { result ≡ piece_on value over ∷ [] }
+    {
+        Partition {
+            pieces: Pieces::One {
+                alloc,
+                piece: Piece { over, value },
+            },
+        }
+    }
 
     /// Adds to each value, at each instant, the number of `covers` that hold the instant. Instants
     /// with no value have none still. Where there are no covers it takes no memory, and after
@@ -99,13 +133,14 @@ impl Partition<u32> {
         ensures err { OnErr result (self.new ≡ self.old) }
         ensures no_covers { length covers.now ≡ 0 → IsOk result }
     {
-        if self.pieces.is_empty() || covers.is_empty() {
+        if self.pieces().is_empty() || covers.is_empty() {
             return Ok(());
         }
-        let alloc = *self.pieces.allocator();
+        let alloc = self.allocator();
         let starts = sorted_starts(alloc, covers)?;
         let ends = sorted_ends(alloc, covers)?;
-        self.pieces = counted_pieces(alloc, &self.pieces, &starts, &ends)?;
+        let counted = counted_pieces(alloc, self.pieces(), &starts, &ends)?;
+        self.pieces = Pieces::Many(counted);
         Ok(())
     }
 }

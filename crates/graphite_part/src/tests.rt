@@ -1,0 +1,73 @@
+//! The calls of a partition, and a caller that cites what `map` gives.
+ghost use Rattle.std.specs.Prelude.{IfOk, option_map};
+ghost use Rattle.graphite_part.specs.Pieces.{value_at, AreRuns};
+
+use super::*;
+use graphite_time::{Interval, NoMemory};
+use std::alloc::Global;
+use std::fmt::Debug;
+use std::process::Abort;
+use std::test::Fail;
+
+fn interval(a: u64, b: u64) -> Result<Interval, Fail> {
+    Ok(Interval::new(a, b).ok_or("an empty interval")?)
+}
+
+fn assert_pieces<T: Plain + Debug>(
+    rt: &impl Abort,
+    partition: &Partition<T>,
+    expected: &[(u64, u64, T)],
+) {
+    let pieces = partition.pieces();
+    assert_eq!(rt; pieces.len(), expected.len());
+    for (piece, (a, b, value)) in pieces.iter().zip(expected) {
+        assert_eq!(rt; piece.over.a(), *a);
+        assert_eq!(rt; piece.over.b(), *b);
+        assert_eq!(rt; piece.value, *value);
+    }
+}
+
+/// 7 at the instants from 0 to 5, but 1 at 2.
+fn painted(alloc: Global) -> Result<Partition<u32>, Fail> {
+    let whole = interval(0, 6)?;
+    let part = interval(2, 3)?;
+    let mut partition = Partition::new(alloc);
+    partition.paint(whole, 7)?;
+    partition.paint(part, 1)?;
+    Ok(partition)
+}
+
+#[test]
+fn calls_on_two_pieces(rt: HostRuntime) -> Result<(), Fail> {
+    let mut left = painted(rt.alloc())?;
+    left.cut(interval(1, 5)?)?;
+    assert_pieces(&rt, &left, &[(0, 1, 7), (5, 6, 7)]);
+    let mut right = Partition::new(rt.alloc());
+    right.push(interval(0, 6)?, 9u32)?;
+    let pairs = left.zip(&right)?;
+    assert_pieces(&rt, &pairs, &[(0, 1, (7, 9)), (5, 6, (7, 9))]);
+    let zeros = zeros(&left)?;
+    assert_pieces(&rt, &zeros, &[(0, 1, 0), (5, 6, 0)]);
+    Ok(())
+}
+
+/// 0 at each instant that has a value, by the law of what `map` gives.
+fn zeros(partition: &Partition<u32>) -> Result<Partition<u64>, NoMemory>
+    ensures { IfOk result (λ out. AreRuns
+        (λ t. option_map (λ _. 0) (value_at partition.now t)) out) }
+{
+    let zero = |_value: u32| 0u64;
+    answers_are_runs(&zero);
+    partition.map(&zero)
+}
+
+#[test]
+fn a_copy_goes_on_alone(rt: HostRuntime) -> Result<(), Fail> {
+    let mut left = painted(rt.alloc())?;
+    left.cut(interval(1, 5)?)?;
+    let mut longer = left.copy()?;
+    longer.paint(interval(6, 8)?, 7)?;
+    assert_pieces(&rt, &longer, &[(0, 1, 7), (5, 8, 7)]);
+    assert_pieces(&rt, &left, &[(0, 1, 7), (5, 6, 7)]);
+    Ok(())
+}
