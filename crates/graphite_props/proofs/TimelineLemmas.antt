@@ -126,6 +126,27 @@ module _ (keys : List (List ℕ)) (key : List ℕ) where
       let is : other ≡ key = names ∙ ap (λ k. get_or (with_key keys key) k []) (sym same) ∙ number-names in
       true≢false (sym ((bytes_eq-Decides other key).1 is) ∙ differs)
 
+  -- the timeline of the key is that of its number
+  pub timeline-at : (ps : List PlainProperty) (timelines : PlaceTimelines) → AreTimelines ps keys timelines → (owner : ℕ) → timeline_of keys timelines owner key ≡ timelines (owner, number)
+  timeline-at ps timelines parts owner = by (position (bytes_eq key) keys) refl
+    where
+      by : (o : Option ℕ) → position (bytes_eq key) keys ≡ o → timeline_of keys timelines owner key ≡ timelines (owner, number)
+      by None e =
+          let length_is : number ≡ length keys = position_or_len-none (bytes_eq key) keys (list_any-false (bytes_eq key) keys e) in
+          ap (option_and_then (λ n. timelines (owner, n))) e ∙ sym (parts.numbered owner number (omega (arith, length_is)))
+      by (Some n) e =
+          ap (option_and_then (λ n. timelines (owner, n))) e ∙ ap (λ n. timelines (owner, n)) (sym (position_or_len-found (bytes_eq key) keys n e))
+
+  -- a key whose number is one of those of the keys is there
+  pub with_key-known : number < length keys → with_key keys key ≡ keys
+  with_key-known within = by (list_any (bytes_eq key) keys) refl
+    where
+      by : (b : Bool) → list_any (bytes_eq key) keys ≡ b → with_key keys key ≡ keys
+      by true e = cond-true _ keys (keys ++ key ∷ []) e
+      by false e =
+          let length_is : number ≡ length keys = position_or_len-none (bytes_eq key) keys e in
+          absurd (omega (arith, length_is, within))
+
   module _ (ps : List PlainProperty) (timelines new : PlaceTimelines) (owner : ℕ) (over : Interval) (value : ℕ)
       (parts : AreTimelines ps keys timelines) (apart : is_apart ps owner key (as_span over) ≡ true) (painted_over : IsPainted timelines new (owner, number) over value) where
     abbrev one_more : PlainProperty
@@ -133,14 +154,7 @@ module _ (keys : List (List ℕ)) (key : List ℕ) where
 
     -- the timeline of the key, before and after
     timeline-before : (owner' : ℕ) → timeline_of keys timelines owner' key ≡ timelines (owner', number)
-    timeline-before owner' = by (position (bytes_eq key) keys) refl
-      where
-        by : (o : Option ℕ) → position (bytes_eq key) keys ≡ o → timeline_of keys timelines owner' key ≡ timelines (owner', number)
-        by None e =
-            let length_is : number ≡ length keys = position_or_len-none (bytes_eq key) keys (list_any-false (bytes_eq key) keys e) in
-            ap (option_and_then (λ n. timelines (owner', n))) e ∙ sym (parts.numbered owner' number (omega (arith, length_is)))
-        by (Some n) e =
-            ap (option_and_then (λ n. timelines (owner', n))) e ∙ ap (λ n. timelines (owner', n)) (sym (position_or_len-found (bytes_eq key) keys n e))
+    timeline-before owner' = timeline-at ps timelines parts owner'
 
     timeline-after : (owner' : ℕ) → timeline_of (with_key keys key) new owner' key ≡ new (owner', number)
     timeline-after owner' = ap (option_and_then (λ n. new (owner', n))) number-own

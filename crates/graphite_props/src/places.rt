@@ -1,10 +1,10 @@
 //! A timeline for each place: an owner with the number of a key.
-ghost use Rattle.std.specs.Prelude.{◌≡◌, [], IfOk, OnOk, OnErr};
+ghost use Rattle.std.specs.Prelude.{◌≡◌, [], OnOk, OnErr};
 ghost use Rattle.graphite_part.specs.Pieces.{value_at, painted, AreRuns};
 ghost use Rattle.graphite_props.specs.Store.{timelines_of, Place, IsPainted};
 
 use graphite_part::Partition;
-use graphite_time::{Interval, Life, NoMemory};
+use graphite_time::{Interval, NoMemory};
 use indexmap::IndexMap;
 use std::alloc::Global;
 
@@ -22,15 +22,13 @@ pub(crate) fn paint_timeline(
     if let Some(timeline) = timelines.get_mut(&place) {
         return timeline.paint(over, value);
     }
-    timelines.insert(place, timeline_of(alloc, over, value)?)?;
+    timelines.insert(place, timeline_of(alloc, over, value))?;
     Ok(())
 }
 
-/// A timeline with one value. It takes room for one piece, since most timelines have no more.
-fn timeline_of(alloc: Global, over: Interval, value: u32) -> Result<Partition<u32>, NoMemory>
-    ensures { IfOk result (AreRuns (painted (value_at []) over value)) }
+/// A timeline with one value.
+fn timeline_of(alloc: Global, over: Interval, value: u32) -> Partition<u32>
+    ensures { AreRuns (painted (value_at []) over value) result }
 {
-    let life = Life::one(alloc, over)?;
-    let timeline = Partition::on_life(alloc, &life, value)?;
-    Ok(timeline)
+    Partition::one(alloc, over, value)
 }

@@ -1,4 +1,6 @@
-ghost use Rattle.std.specs.Prelude.{◌≡◌, ◌<◌, ◌≤◌, ◌↔◌, ◌++◌, ℕ, [], ◌∷◌, not, true, false, length, map, slice_get, is_some, Err, Some, All, IfSome, OnOk, OnErr};
+ghost use Rattle.std.specs.Prelude.{◌≡◌, ◌<◌, ◌≤◌, ◌↔◌, ◌++◌, ℕ, List, [], ◌∷◌, not, true, false, length, map, slice_get, is_some, Err, Some, All, IfSome, OnOk, OnErr};
+ghost use Rattle.std.specs.List.{position_or_len};
+ghost use Rattle.std.specs.Str.{bytes_eq};
 ghost use Rattle.graphite_part.specs.Pieces.{value_at};
 ghost use Rattle.graphite_text.specs.Graph.{property_at};
 ghost use Rattle.graphite_text.specs.Reading.{is_apart};
@@ -67,10 +69,11 @@ impl<'a> Timelines<'a> {
         ensures ok { OnOk result (self.new ≡ self.old ++ property owner key.now over value ∷ []) }
         ensures err { OnErr result (self.new ≡ self.old) }
     {
-        if self.overlaps(owner, key, over) {
+        let number = self.number_of(key);
+        if self.overlaps_at(owner, number, over) {
             return Err(AddFault::Overlap);
         }
-        Ok(self.append(owner, key, over, value)?)
+        Ok(self.append(owner, key, number, over, value)?)
     }
 
     /// The values that an owner has under a key, by instant. `None` exactly where no property has
@@ -80,8 +83,7 @@ impl<'a> Timelines<'a> {
         ensures values { IfSome result (λ timeline. (t : ℕ)
             → value_at timeline.now t ≡ property_at self.now owner key.now t) }
     {
-        let number = self.keys.get_index_of(key)?;
-        self.timelines.get(&(owner, number as u32))
+        self.timeline_at(owner, self.number_of(key))
     }
 
     /// The properties in the order of adding, with their keys by number.
@@ -106,32 +108,58 @@ impl<'a> Timelines<'a> {
     pub fn overlaps(&self, owner: u32, key: &[u8], over: Interval) -> bool
         ensures { result ≡ not (is_apart self.now owner key.now (as_span over)) }
     {
-        match self.timeline(owner, key) {
+        self.overlaps_at(owner, self.number_of(key), over)
+    }
+
+    /// The number that a key has, or that it gets when it is added.
+    fn number_of(&self, key: &[u8]) -> u32
+        ensures { result ≡ position_or_len (bytes_eq key.now) (keys_of self.now) }
+    {
+        next_number(&self.keys, key)
+    }
+
+    /// The same as `timeline`, for the key with this number.
+    fn timeline_at(&self, owner: u32, number: u32) -> Option<&Partition<u32>>
+        ensures known { (key : List ℕ) → number ≡ position_or_len (bytes_eq key) (keys_of self.now)
+            → is_some result ≡ has_property self.now owner key }
+        ensures values { (key : List ℕ) → number ≡ position_or_len (bytes_eq key) (keys_of self.now)
+            → IfSome result (λ timeline. (t : ℕ) → value_at timeline.now t ≡ property_at self.now owner key t) }
+    {
+        self.timelines.get(&(owner, number))
+    }
+
+    /// The same as `overlaps`, for the key with this number.
+    fn overlaps_at(&self, owner: u32, number: u32, over: Interval) -> bool
+        ensures { (key : List ℕ) → number ≡ position_or_len (bytes_eq key) (keys_of self.now)
+            → result ≡ not (is_apart self.now owner key (as_span over)) }
+    {
+        match self.timeline_at(owner, number) {
             Some(timeline) => meets(timeline.pieces(), over),
             None => false,
         }
     }
 
-    /// Adds a property that does not overlap those of its owner and key.
+    /// Adds a property that does not overlap those of its owner and key, of which it has the number.
     fn append(
         &mut self,
         owner: u32,
         key: &'a [u8],
+        number: u32,
         over: Interval,
         value: u32,
     ) -> Result<(), NoMemory>
         requires room { length self.old < 4194304 }
+        requires number { number ≡ position_or_len (bytes_eq key.now) (keys_of self.old) }
         requires apart { is_apart self.old owner key.now (as_span over) ≡ true }
         ensures ok { OnOk result (self.new ≡ self.old ++ property owner key.now over value ∷ []) }
         ensures err { OnErr result (self.new ≡ self.old) }
     {
         self.rows.reserve(1)?;
         self.keys.reserve(1)?;
-        let number = next_number(&self.keys, key);
         let alloc = *self.rows.allocator();
         paint_timeline(alloc, &mut self.timelines, (owner, number), over, value)?;
         // the room for the rest is there, so from here on nothing fails
-        add_key(&mut self.keys, key);
+        add_key(&mut self.keys, key, number);
         self.rows
             .push(PropRow {
                 owner,

@@ -1,5 +1,4 @@
 use Rattle.std.proofs.Common.{◌∙◌, ap, sym, subst, refl, IsSome, Some}
-use Rattle.graphite_part.specs.Pieces.{painted, value_at, AreRuns}
 use Rattle.indexmap.specs.IndexMap.{Updates}
 use Rattle.graphite_props.specs.Store.{place_eq}
 use Rattle.graphite_props.proofs.StoreLemmas.{OnErr-map, timelines-kept, IsPainted-new}
@@ -15,7 +14,7 @@ returns-in-Some-clause-err c =
 pub returns-clause-ok : goal.returns-clause-ok
 returns-clause-ok c =
     let old = c.get_mut.follows.holds-at-none in
-    let timeline = c.in_ok-timeline_of.field-0 in
+    let timeline = c.timeline_of.result in
     IsPainted-new c.args.timelines.now c.insert.new.self c.args.place timeline c.args.over c.args.value (sym c.in_default.ensures.value)
     (subst (λ m. Updates place_eq m c.insert.new.self c.args.place (Some timeline)) old c.in_ok-insert.ensures.updates)
-    c.in_ok-timeline_of.ensures
+    c.timeline_of.ensures

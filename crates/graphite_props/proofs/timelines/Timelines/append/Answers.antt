@@ -5,7 +5,7 @@ use Rattle.std.proofs.lemmas.List.{length-map}
 use Rattle.graphite_text.specs.Reading.{is_apart}
 use Rattle.graphite_text.specs.Spans.{as_span}
 use Rattle.graphite_props.specs.declared.row.PropRow.{PropRow}
-use Rattle.graphite_props.specs.Properties.{with_key, property}
+use Rattle.graphite_props.specs.Properties.{keys_of, with_key, property}
 use Rattle.graphite_props.specs.Rows.{property_of, properties_of}
 use Rattle.graphite_props.proofs.StoreLemmas.{AreKept-added, AreKept-same, properties_of-push, pushed}
 use Rattle.graphite_props.proofs.timelines.Timelines.append.Goals as goal
@@ -16,22 +16,26 @@ invariant_of-self-in_err-paint_timeline c =
 
 pub invariant_of-self-2 : goal.invariant_of-self-2
 invariant_of-self-2 c =
-    let row : PropRow = record { owner = c.args.owner; key = c.next_number-number.result; over = c.args.over; value = c.args.value } in
+    let row : PropRow = record { owner = c.args.owner; key = c.args.number; over = c.args.over; value = c.args.value } in
     let keyed = c.add_key.ensures ∙ ap (λ keys. with_key (map (λ key. key.now) keys) c.args.key.now) c.in_ok-reserve-2.ensures.keys in
     let rowed = pushed _ _ _ _ c.self.inside.rows.items row c.push.ensures.items c.unwrap.ensures c.reserve.ensures.items in
-    let number = c.next_number-number.ensures ∙ ap (λ keys. position_or_len (bytes_eq c.args.key.now) (map (λ key. key.now) keys)) c.in_ok-reserve-2.ensures.keys in
+    let number = c.requires.number ∙ sym (ap (position_or_len (bytes_eq c.args.key.now)) (c.self.invariant.timelines.keys_are ∙ ap keys_of c.self.view_is)) in
     let room : length c.self.inside.rows.items < 4194304 = omega (arith, sym (length-map c.self.inside.rows.items (property_of (map (λ key. key.now) c.self.inside.keys.keys))), ap length c.self.view_is, c.requires.room) in
     AreKept-added (map (λ key. key.now) c.self.inside.keys.keys) _ c.args.key.now c.self.inside.rows.items _ row c.self.inside.timelines c.paint_timeline.new.timelines
     c.self.invariant keyed rowed number room
     (subst (λ ps. is_apart ps c.args.owner c.args.key.now (as_span c.args.over) ≡ true) (sym c.self.view_is) c.requires.apart)
     c.in_ok-paint_timeline.ensures.ok
 
+pub add_key-requires-clause-number : goal.add_key-requires-clause-number
+add_key-requires-clause-number c =
+    c.requires.number ∙ sym (ap (position_or_len (bytes_eq c.args.key.now)) (ap (map (λ key. key.now)) c.in_ok-reserve-2.ensures.keys ∙ c.self.invariant.timelines.keys_are ∙ ap keys_of c.self.view_is))
+
 pub returns-clause-ok : goal.returns-clause-ok
 returns-clause-ok c =
-    let row : PropRow = record { owner = c.args.owner; key = c.next_number-number.result; over = c.args.over; value = c.args.value } in
+    let row : PropRow = record { owner = c.args.owner; key = c.args.number; over = c.args.over; value = c.args.value } in
     let keyed = c.add_key.ensures ∙ ap (λ keys. with_key (map (λ key. key.now) keys) c.args.key.now) c.in_ok-reserve-2.ensures.keys in
     let rowed = pushed _ _ _ _ c.self.inside.rows.items row c.push.ensures.items c.unwrap.ensures c.reserve.ensures.items in
-    let number = c.next_number-number.ensures ∙ ap (λ keys. position_or_len (bytes_eq c.args.key.now) (map (λ key. key.now) keys)) c.in_ok-reserve-2.ensures.keys in
+    let number = c.requires.number ∙ sym (ap (position_or_len (bytes_eq c.args.key.now)) (c.self.invariant.timelines.keys_are ∙ ap keys_of c.self.view_is)) in
     (λ i. properties_of (keyed i) (rowed i))
     ∙ properties_of-push (map (λ key. key.now) c.self.inside.keys.keys) c.args.key.now c.self.inside.rows.items row c.self.invariant.keys_in_range number
     ∙ ap (λ ps. ps ++ property c.args.owner c.args.key.now c.args.over c.args.value ∷ []) c.self.view_is
