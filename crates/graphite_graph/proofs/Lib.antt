@@ -2,8 +2,10 @@ pub mod ListLemmas
 pub mod LifeLemmas
 pub mod StoreLemmas
 pub mod LineLemmas
+pub mod NameLemmas
 pub mod StepLemmas
 pub mod RecordLemmas
 pub mod ReadingLemmas
 pub mod PropertyLemmas
 pub mod ShowLemmas
+pub mod TravelLemmas

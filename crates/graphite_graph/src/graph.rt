@@ -1,8 +1,8 @@
-ghost use Rattle.std.specs.Prelude.{◌≡◌, ◌<◌, ◌≤◌, ◌++◌, Some, length, map, IfSome, OnOk, OnErr};
+ghost use Rattle.std.specs.Prelude.{◌≡◌, ◌<◌, ◌≤◌, ◌++◌, ℕ, Some, length, map, IsTrue, IfSome, OnOk, OnErr};
 ghost use Rattle.graphite_time.specs.declared.TheConstants.{LAST};
 ghost use Rattle.graphite_time.specs.Life.{IsLife};
 ghost use Rattle.graphite_text.specs.Canonical.{canonical_text};
-ghost use Rattle.graphite_text.specs.Graph.{vertex_life, edge_life, vertex_number, edge_number};
+ghost use Rattle.graphite_text.specs.Graph.{vertex_life, edge_life, vertex_number, edge_number, vertex_is_alive, edge_is_alive, travel_time};
 ghost use Rattle.graphite_text.specs.Reading.{Accepted, reading_of};
 ghost use Rattle.graphite_text.specs.Spans.{as_span};
 ghost use Rattle.graphite_graph.specs.Life.{EndsBy};
@@ -125,12 +125,16 @@ impl<'a> Graph<'a> {
         self.store.edge_life(e)
     }
 
-    /// The vertices that an edge leads from and to.
+    /// The vertices that an edge leads from and to. Both are alive at each instant of the edge.
     pub fn ends(&self, e: u32) -> Ends
         requires { e < length self.now.edges }
         ensures ends { edge_ends self.now e ≡ Some result }
         ensures from_in_range { result.from < length self.now.vertices }
         ensures to_in_range { result.to < length self.now.vertices }
+        ensures from_alive { (t : ℕ) → IsTrue (edge_is_alive self.now e t)
+            → IsTrue (vertex_is_alive self.now result.from t) }
+        ensures to_alive { (t : ℕ) → IsTrue (edge_is_alive self.now e t)
+            → IsTrue (vertex_is_alive self.now result.to t) }
     {
         self.store.ends(e)
     }
@@ -159,10 +163,11 @@ impl<'a> Graph<'a> {
         self.store.vertex_props()
     }
 
-    /// The properties of the edges, which own them by number.
+    /// The properties of the edges, which own them by number. No travel time is 0.
     pub fn edge_props(&self) -> &Timelines<'a>
         ensures properties { result.now ≡ self.now.edge_properties }
         ensures owners { AreOwned (length self.now.edges) result.now }
+        ensures times { (e t : ℕ) → 1 ≤ travel_time self.now e t }
     {
         self.store.edge_props()
     }

@@ -1,4 +1,4 @@
-ghost use Rattle.std.specs.Prelude.{◌≡◌, ◌<◌, ◌^◌, [], ◌∷◌, ◌++◌, Some, slice_get, length, position, is_none, if◌then◌else◌, IfSome, IfOk, OnErr};
+ghost use Rattle.std.specs.Prelude.{◌≡◌, ◌<◌, ◌^◌, [], ◌∷◌, ◌++◌, Some, slice_get, length, position, is_none, if◌then◌else◌, true, IfSome, IfOk, OnErr};
 ghost use Rattle.std.specs.Str.{bytes_eq};
 
 use graphite_time::NoMemory;
@@ -48,6 +48,33 @@ impl<'a> Names<'a> {
         match self.set.get_index_of(name) {
             Some(number) => Some(number as u32),
             None => None,
+        }
+    }
+
+    /// The number of a name, as [`Names::number_of`] has it, without a search where it is `guess` or
+    /// the one after it.
+    pub fn number_near(&self, name: &[u8], guess: u32) -> Option<u32>
+        ensures number { result ≡ position (bytes_eq name.now) self.now }
+        ensures within { IfSome result (λ number. number < length self.now) }
+    {
+        if self.has_at(guess as usize, name) {
+            return Some(guess);
+        }
+        let next = guess.saturating_add(1);
+        if self.has_at(next as usize, name) {
+            return Some(next);
+        }
+        self.number_of(name)
+    }
+
+    /// Whether a name has a number.
+    fn has_at(&self, number: usize, name: &[u8]) -> bool
+        ensures place { result ≡ true → position (bytes_eq name.now) self.now ≡ Some number }
+        ensures within { result ≡ true → number < length self.now }
+    {
+        match self.set.as_slice().get(number) {
+            Some(stored) => name == *stored,
+            None => false,
         }
     }
 

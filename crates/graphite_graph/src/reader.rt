@@ -279,7 +279,7 @@ impl<'a> Reader<'a> {
         ensures broken { IfErr result (λ rule. (key : List ℕ) (value : ℕ)
             → owner_broken self.now (VertexProperty name.now key (as_span over) value) ≡ Some rule) }
     {
-        let Some(v) = self.graph.find_vertex(name) else {
+        let Some(v) = self.graph.find_property_vertex(name) else {
             return Err(DECLARED_RULE);
         };
         if !self.graph.is_alive_throughout(v, over) {
@@ -341,7 +341,7 @@ impl<'a> Reader<'a> {
         ensures broken { IfErr result (λ rule. (key : List ℕ) (value : ℕ)
             → owner_broken self.now (EdgeProperty name.now key (as_span over) value) ≡ Some rule) }
     {
-        let Some(e) = self.graph.find_edge(name) else {
+        let Some(e) = self.graph.find_property_edge(name) else {
             return Err(DECLARED_RULE);
         };
         if !self.graph.edge_is_alive_throughout(e, over) {

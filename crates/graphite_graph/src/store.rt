@@ -13,7 +13,7 @@ ghost use Rattle.graphite_graph.specs.Store.{AreAmong, AreOwned};
 
 use crate::ends::Ends;
 use crate::names::Names;
-use graphite_props::{AddFault, Timelines};
+use graphite_props::{AddFault, PropRow, Timelines};
 use graphite_time::{Interval, Life, NoMemory};
 use std::alloc::Global;
 use std::marker::Model;
@@ -62,6 +62,11 @@ impl<'a> Model for Store<'a> {
         × AreEdges graph.horizon (length graph.vertex_names) graph.edge_names graph.edge_ends.items graph.edge_lives.items
         × AreOwned (length graph.vertex_names) graph.vertex_props
         × AreOwned (length graph.edge_names) graph.edge_props };
+}
+
+/// The owner of the last row, or 0.
+fn last_owner(rows: &[PropRow]) -> u32 {
+    rows.last().map_or(0, |row| row.owner)
 }
 
 impl<'a> Store<'a> {
@@ -327,6 +332,27 @@ impl<'a> Store<'a> {
         ensures in_range { IfSome result (λ e. e < length self.now.edges) }
     {
         self.edge_names.number_of(name)
+    }
+
+    /// The number of the vertex with a name, as [`Store::find_vertex`] has it. Where that vertex has
+    /// the last property or follows the one that has it, nothing is searched: properties mostly come
+    /// in the order of their owners.
+    pub(crate) fn find_property_vertex(&self, name: &[u8]) -> Option<u32>
+        ensures number { result ≡ vertex_number self.now name.now }
+        ensures in_range { IfSome result (λ v. v < length self.now.vertices) }
+    {
+        self.vertex_names
+            .number_near(name, last_owner(self.vertex_props.rows()))
+    }
+
+    /// The number of the edge with a name, as [`Store::find_edge`] has it. Where that edge has the
+    /// last property or follows the one that has it, nothing is searched.
+    pub(crate) fn find_property_edge(&self, name: &[u8]) -> Option<u32>
+        ensures number { result ≡ edge_number self.now name.now }
+        ensures in_range { IfSome result (λ e. e < length self.now.edges) }
+    {
+        self.edge_names
+            .number_near(name, last_owner(self.edge_props.rows()))
     }
 
     /// The properties of the vertices, which own them by number.
