@@ -1,0 +1,5 @@
+pub mod Examples
+pub mod LawLemmas
+pub mod SortedLemmas
+pub mod TripleLemmas
+pub mod WarpLemmas

@@ -1,0 +1,65 @@
+ghost use Rattle.std.specs.Prelude.{◌≡◌, ◌↔◌, IsTrue};
+
+use graphite_part::{Plain, is_same};
+use graphite_time::Interval;
+use std::marker::Model;
+
+/// An interval at each instant of which the same state meets the same notes.
+#[derive(Drop)]
+pub struct Triple<S: Plain, M: Plain> {
+    over: Interval,
+    state: S,
+    group: Vec<M>,
+}
+
+impl<S: Plain, M: Plain> Model for Triple<S, M> {
+    ghost use Rattle.std.specs.Prelude.{List};
+    ghost use Rattle.graphite_part.specs.declared.piece.Piece.{Piece};
+
+    ghost Value = { Piece (S × List M) };
+
+    ghost view = { λ triple. record { over = triple.over; value = (triple.state, triple.group.items) } };
+}
+
+impl<S: Plain, M: Plain> Triple<S, M> {
+    pub(crate) fn new(over: Interval, state: S, group: Vec<M>) -> Triple<S, M>
+        ensures { result ≡ record { over = over; value = (state, group.items) } }
+    {
+        Triple { over, state, group }
+    }
+
+    /// The instants.
+    pub fn over(&self) -> Interval
+        ensures { result ≡ self.now.over }
+    {
+        self.over
+    }
+
+    /// The state at each of them.
+    pub fn state(&self) -> S
+        ensures { result ≡ self.now.value.0 }
+    {
+        self.state
+    }
+
+    /// The notes of the messages that hold them, in rising order, repeats kept.
+    pub fn group(&self) -> &[M]
+        ensures { result.now ≡ self.now.value.1 }
+    {
+        &self.group
+    }
+
+    /// Whether these are its state and its notes.
+    pub(crate) fn has(&self, state: S, group: &[M]) -> bool
+        ensures { IsTrue result ↔ (self.now.value ≡ (state, group.now)) }
+    {
+        is_same(self.state, state) && are_same(&self.group, group)
+    }
+}
+
+/// Whether two lists of notes are the same.
+fn are_same<M: Plain>(xs: &[M], ys: &[M]) -> bool
+    ensures { IsTrue result ↔ (xs.now ≡ ys.now) }
+{
+    xs == ys
+}
