@@ -1,0 +1,5 @@
+use Rattle.graphite_api.proofs.SuperstepLemmas.{silent_for_good}
+use Rattle.graphite_api.proofs.laws.silence_lasts.Goals as goal
+
+pub returns : goal.returns
+returns g c = λ plan snapshot k j always first silent le v. silent_for_good plan snapshot k j always first silent le v

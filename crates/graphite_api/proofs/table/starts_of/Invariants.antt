@@ -1,0 +1,12 @@
+use Rattle.std.proofs.Common.{◌≡◌, ◌≤◌, ◌<◌, ℕ, length, slice_index}
+use Rattle.std.specs.List.{AllWithin}
+use Rattle.graphite_api.specs.Table.{IsStart}
+use Rattle.graphite_api.proofs.table.starts_of.Given as goal
+
+abbrev pub invariant-loop-v : goal.invariant-loop-v
+invariant-loop-v l = record {
+  within : l.start ≤ length l.arcs;
+  passed : AllWithin (λ arc. arc.from < l.v) l.arcs 0 l.start;
+  len : length l.starts.items ≡ l.v;
+  starts : (w : ℕ) → w < l.v → IsStart l.arcs w (slice_index l.starts.items w);
+}

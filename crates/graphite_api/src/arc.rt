@@ -1,0 +1,31 @@
+ghost use Rattle.graphite_part.specs.PlainLaws.{not_small};
+ghost use Rattle.graphite_api.specs.ArcOrder.{arc_exact};
+
+use graphite_part::Plain;
+use graphite_time::Interval;
+
+/// An edge of the graph, over an interval of instants at which it can be taken, with its time and
+/// cost there. One edge can have several arcs. Arcs are ordered by their fields, in this order: by
+/// source, by edge, by interval, and then by the rest.
+#[derive(Clone, Copy, Debug, PartialEq, Eq, PartialOrd, Ord)]
+pub struct Arc {
+    /// The number of the vertex that it leads out of.
+    pub from: u32,
+    /// The number of the edge.
+    pub edge: u32,
+    /// The instants at which it can be taken.
+    pub over: Interval,
+    /// The number of the vertex that it leads to.
+    pub to: u32,
+    /// How many instants it takes.
+    pub time: u32,
+    pub cost: u32,
+    /// The lifespan of the target that an arrival is in.
+    pub stay: Interval,
+}
+
+impl Plain for Arc {
+    ghost exact = { arc_exact };
+
+    ghost small = { not_small };
+}
