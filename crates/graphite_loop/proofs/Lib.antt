@@ -1,0 +1,14 @@
+pub mod CallLemmas
+pub mod DeliveryLemmas
+pub mod DropLemmas
+pub mod Examples
+pub mod LetterLemmas
+pub mod PartLemmas
+pub mod PointLemmas
+pub mod PointRunLemmas
+pub mod RunLemmas
+pub mod ScatterLemmas
+pub mod SendLemmas
+pub mod StepLemmas
+pub mod TableLemmas
+pub mod WalkLemmas

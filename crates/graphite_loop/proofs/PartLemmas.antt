@@ -1,0 +1,217 @@
+-- Pieces that are made of other pieces, one after another; and the pieces whose values pass a test.
+use Rattle.std.proofs.Common.{◌≡◌, ℕ, zero, suc, ◌+◌, ◌<◌, ◌≤◌, Bool, true, false, List, [], ◌∷◌, length, get_or, take, filter, Option, Some, None, option_map, cond, refl, sym, ◌∙◌, ap, subst, arith, ⊎_elim, inr, Result, Ok, Err, IfOk, OnErr}
+use Rattle.std.specs.Option.{option_and_then}
+use Rattle.std.proofs.lemmas.Bool.{cond-true, cond-false, cases_lt}
+use Rattle.std.proofs.lemmas.List.{length-take-le}
+use Rattle.std.proofs.lemmas.List.Filters.{length-filter_more}
+use Rattle.graphite_time.specs.Interval.{start_of, holds}
+use Rattle.graphite_time.proofs.LifeLemmas.{holds-true, holds_before}
+use Rattle.graphite_part.specs.declared.piece.Piece.{Piece}
+use Rattle.graphite_part.specs.Pieces.{value_at, IsChain, StandsBefore, AreRuns, last_end}
+use Rattle.graphite_part.proofs.CopyLemmas.{next_piece}
+use Rattle.graphite_part.proofs.FillLemmas.{value_at-past}
+use Rattle.graphite_part.proofs.PiecesLemmas.{value_at-tail}
+use Rattle.graphite_part.proofs.CopyLemmas.{IsChain-take}
+use Rattle.graphite_api.specs.declared.next.Next.{Next}
+use Rattle.graphite_warp.specs.declared.message.Message.{Message}
+use Rattle.graphite_warp.specs.declared.touch.Touch.TheVariants.{All}
+use Rattle.graphite_warp.specs.Warp.{notes_at, warped}
+use Rattle.graphite_loop.specs.Sweep.{Rules, left_at, state_of, sent_of}
+use Rattle.graphite_loop.specs.Superstep.{input_with}
+use Rattle.graphite_loop.specs.Vertex.{left_of, input_to, Calls, NoMoreCalls, left_of_pair, next_state, sent_state, pair_computes, inputs_of, Put, AreMade}
+
+pub AreMade-none : {X Y : Type 0} (f : X → Option Y) → AreMade f [] []
+AreMade-none f = record { runs = record { in_order = tt; values = λ t. refl }; end = omega arith }
+
+-- one more piece: what f makes of its value was put behind
+pub AreMade-more : {X Y : Type 0} (f : X → Option Y) (pieces : List (Piece X)) (mid new : List (Piece Y)) (k : ℕ) (piece : Piece X) → IsChain pieces → k < length pieces → piece ≡ get_or pieces k piece → AreMade f (take k pieces) mid → Put mid new piece.over (f piece.value) → AreMade f (take (k + 1) pieces) new
+AreMade-more {X} {Y} f pieces mid new k piece chain within is so_far put = by (f piece.value) refl put
+  where
+    by : (o : Option Y) → f piece.value ≡ o → Put mid new piece.over o → AreMade f (take (k + 1) pieces) new
+    by None none same =
+        let next = next_piece pieces k piece chain within is in
+        let values : (t : ℕ) → value_at mid t ≡ option_and_then f (value_at (take (k + 1) pieces) t) = λ t.
+        ⊎_elim
+        (λ (early : t < start_of piece.over).
+        so_far.runs.values t ∙ sym (ap (option_and_then f) (next.3 t ∙ cond-false _ _ _ (holds_before piece.over t early))))
+        (λ (late : start_of piece.over ≤ t).
+        value_at-past mid t so_far.runs.in_order (omega (arith, late, so_far.end, next.1))
+        ∙ sym (ap (option_and_then f) (next.3 t) ∙ at (holds piece.over t) t late))
+        (cases_lt t (start_of piece.over)) in
+        subst (AreMade f (take (k + 1) pieces)) (sym same) (record {
+          runs = record { in_order = so_far.runs.in_order; values = values };
+          end = omega (arith, so_far.end, next.1, next.2, piece.over.proper.0);
+        })
+      where
+        at : (b : Bool) (t : ℕ) → start_of piece.over ≤ t → option_and_then f (cond b (Some piece.value) (value_at (take k pieces) t)) ≡ None
+        at true t late = none
+        at false t late =
+            ap (option_and_then f) (value_at-past (take k pieces) t (IsChain-take k pieces chain) (omega (arith, late, (next_piece pieces k piece chain within is).1)))
+    by (Some y) some pushed =
+        let next = next_piece pieces k piece chain within is in
+        record {
+          runs = record {
+            in_order = pushed.runs.in_order;
+            values = λ t. pushed.runs.values t ∙ sym (ap (option_and_then f) (next.3 t) ∙ at (holds piece.over t) t);
+          };
+          end = omega (arith, pushed.end, next.2);
+        }
+      where
+        at : (b : Bool) (t : ℕ) → option_and_then f (cond b (Some piece.value) (value_at (take k pieces) t)) ≡ cond b (Some y) (value_at mid t)
+        at true t = some
+        at false t = sym (so_far.runs.values t)
+
+-- where what was made ends, the next may be put
+pub next_put : {X Y : Type 0} (f : X → Option Y) (pieces : List (Piece X)) (out : List (Piece Y)) (k : ℕ) (piece : Piece X) → IsChain pieces → k < length pieces → piece ≡ get_or pieces k piece → AreMade f (take k pieces) out → last_end out ≤ start_of piece.over
+next_put f pieces out k piece chain within is so_far =
+    omega (arith, so_far.end, (next_piece pieces k piece chain within is).1)
+
+-- the pieces whose values pass a test
+stands_before-filter : {X : Type 0} (p : X → Bool) (piece : Piece X) (pieces : List (Piece X)) → IsChain (piece ∷ pieces) → StandsBefore piece (filter (λ x. p x.value) pieces)
+stands_before-filter p piece [] chain = tt
+stands_before-filter {X} p piece (next ∷ pieces) chain = by (p next.value) refl (later piece next pieces chain)
+  where
+    -- what may stand before the first may stand before those after it, which it does not touch
+    later : (piece next : Piece X) (pieces : List (Piece X)) → IsChain (piece ∷ next ∷ pieces) → StandsBefore piece (filter (λ x. p x.value) pieces)
+    later piece next [] chain = tt
+    later piece next (third ∷ pieces) chain = by3 (p third.value) refl (later piece third pieces ((omega (arith, chain.0.0, chain.1.0.0, next.over.proper.0), λ touch. absurd (omega (arith, touch, chain.0.0, chain.1.0.0, next.over.proper.0))), chain.1.1))
+      where
+        by3 : (b : Bool) → p third.value ≡ b → StandsBefore piece (filter (λ x. p x.value) pieces) → StandsBefore piece (cond b (third ∷ filter (λ x. p x.value) pieces) (filter (λ x. p x.value) pieces))
+        by3 true e rest = (omega (arith, chain.0.0, chain.1.0.0, next.over.proper.0), λ touch. absurd (omega (arith, touch, chain.0.0, chain.1.0.0, next.over.proper.0)))
+        by3 false e rest = rest
+
+    by : (b : Bool) → p next.value ≡ b → StandsBefore piece (filter (λ x. p x.value) pieces) → StandsBefore piece (cond b (next ∷ filter (λ x. p x.value) pieces) (filter (λ x. p x.value) pieces))
+    by true e rest = chain.0
+    by false e rest = rest
+
+pub IsChain-filter : {X : Type 0} (p : X → Bool) (pieces : List (Piece X)) → IsChain pieces → IsChain (filter (λ x. p x.value) pieces)
+IsChain-filter p [] chain = tt
+IsChain-filter {X} p (piece ∷ pieces) chain = by (p piece.value) (IsChain-filter p pieces chain.1)
+  where
+    by : (b : Bool) → IsChain (filter (λ x. p x.value) pieces) → IsChain (cond b (piece ∷ filter (λ x. p x.value) pieces) (filter (λ x. p x.value) pieces))
+    by true rest = (stands_before-filter p piece pieces chain, rest)
+    by false rest = rest
+
+-- a value that passes the test, or nothing
+abbrev pub passing : {X : Type 0} → (X → Bool) → X → Option X
+passing p x = cond (p x) (Some x) None
+
+pub value_at-filter : {X : Type 0} (p : X → Bool) (pieces : List (Piece X)) (t : ℕ) → IsChain pieces → value_at (filter (λ x. p x.value) pieces) t ≡ option_and_then (passing p) (value_at pieces t)
+value_at-filter p [] t chain = refl
+value_at-filter {X} p (piece ∷ pieces) t chain = by (value_at-filter p pieces t chain.1) (p piece.value) refl (holds piece.over t) refl
+  where
+    by : value_at (filter (λ x. p x.value) pieces) t ≡ option_and_then (passing p) (value_at pieces t) → (b : Bool) → p piece.value ≡ b → (h : Bool) → holds piece.over t ≡ h → value_at (cond b (piece ∷ filter (λ x. p x.value) pieces) (filter (λ x. p x.value) pieces)) t ≡ option_and_then (passing p) (cond h (Some piece.value) (value_at pieces t))
+    by rest true e true here = cond-true _ _ _ here ∙ sym (cond-true _ _ _ e)
+    by rest true e false there = cond-false _ _ _ there ∙ rest
+    by rest false e true here =
+        rest ∙ ap (option_and_then (passing p)) (value_at-tail piece pieces t chain (holds-true piece.over t here).1) ∙ sym (cond-false _ _ _ e)
+    by rest false e false there = rest
+
+-- the triples so far were computed: what was made of them, and the calls
+pub record HaveComputed {S M : Type 0} (rules : Rules S M) (k : ℕ) (triples : List (Piece (S × List M))) (states sent : List (Piece S)) (before now : ℕ) : Type 0 where
+  pub states_are : AreMade (λ pair. next_state (left_of_pair rules k pair)) triples states
+  pub sent_are : AreMade (λ pair. sent_state (left_of_pair rules k pair)) triples sent
+  pub counted : now ≡ before + length (inputs_of rules k triples)
+
+pub HaveComputed-none : {S M : Type 0} (rules : Rules S M) (k : ℕ) (states sent : List (Piece S)) (count : ℕ) → states ≡ [] → sent ≡ [] → HaveComputed rules k [] states sent count count
+HaveComputed-none rules k states sent count none none' = record {
+  states_are = subst (AreMade (λ pair. next_state (left_of_pair rules k pair)) []) (sym none) (AreMade-none _);
+  sent_are = subst (AreMade (λ pair. sent_state (left_of_pair rules k pair)) []) (sym none') (AreMade-none _);
+  counted = omega arith;
+}
+
+abbrev one_if : Bool → ℕ
+one_if b = cond b 1 0
+
+-- the calls so far, and the one that comes
+pub count_more : {S M : Type 0} (rules : Rules S M) (k : ℕ) (triples : List (Piece (S × List M))) (before mid now i : ℕ) (triple : Piece (S × List M)) → i < length triples → triple ≡ get_or triples i triple → mid ≡ before + length (inputs_of rules k (take i triples)) → now ≡ mid + cond (pair_computes rules k triple.value) 1 0 → now ≡ before + length (inputs_of rules k (take (i + 1) triples))
+count_more rules k triples before mid now i triple within is so_far one =
+    let more = length-filter_more (λ (x : Piece _). pair_computes rules k x.value) triples i triple within in
+    let same = ap (λ (x : Piece _). one_if (pair_computes rules k x.value)) (sym is) in
+    omega (arith, more, same, so_far, one)
+
+-- what is known when a triple was computed and put behind
+pub HaveComputed-more : {S M : Type 0} (rules : Rules S M) (k : ℕ) (triples : List (Piece (S × List M))) (states sent states' sent' : List (Piece S)) (before mid now i : ℕ) (triple : Piece (S × List M)) (next : Next S)
+    → IsChain triples → i < length triples → triple ≡ get_or triples i triple → HaveComputed rules k (take i triples) states sent before mid
+    → next ≡ left_of_pair rules k triple.value → now ≡ mid + cond (pair_computes rules k triple.value) 1 0
+    → Put states states' triple.over (next_state next) → Put sent sent' triple.over (sent_state next)
+    → HaveComputed rules k (take (i + 1) triples) states' sent' before now
+HaveComputed-more rules k triples states sent states' sent' before mid now i triple next chain within is so_far answer count put put' = record {
+  states_are = AreMade-more (λ pair. next_state (left_of_pair rules k pair)) triples states states' i triple chain within is so_far.states_are (subst (λ n. Put states states' triple.over (next_state n)) answer put);
+  sent_are = AreMade-more (λ pair. sent_state (left_of_pair rules k pair)) triples sent sent' i triple chain within is so_far.sent_are (subst (λ n. Put sent sent' triple.over (sent_state n)) answer put');
+  counted = count_more rules k triples before mid now i triple within is so_far.counted count;
+}
+
+length-filter_take : {X : Type 0} (p : X → Bool) (xs : List X) (i : ℕ) → length (filter p (take i xs)) ≤ length (filter p xs)
+length-filter_take p xs zero = omega arith
+length-filter_take p [] (suc i) = omega arith
+length-filter_take {X} p (x ∷ xs) (suc i) = by (length-filter_take p xs i) (p x)
+  where
+    by : length (filter p (take i xs)) ≤ length (filter p xs) → (b : Bool) → length (cond b (x ∷ filter p (take i xs)) (filter p (take i xs))) ≤ length (cond b (x ∷ filter p xs) (filter p xs))
+    by rest true = omega (arith, rest)
+    by rest false = rest
+
+-- no more than all of them
+pub no_more : {S M : Type 0} (rules : Rules S M) (k : ℕ) (triples : List (Piece (S × List M))) (i : ℕ) → length (inputs_of rules k (take i triples)) ≤ length (inputs_of rules k triples)
+no_more rules k triples i = length-filter_take (λ (x : Piece _). pair_computes rules k x.value) triples i
+
+length-filter-le : {X : Type 0} (p : X → Bool) (xs : List X) → length (filter p xs) ≤ length xs
+length-filter-le p [] = omega arith
+length-filter-le {X} p (x ∷ xs) = by (length-filter-le p xs) (p x)
+  where
+    by : length (filter p xs) ≤ length xs → (b : Bool) → length (cond b (x ∷ filter p xs) (filter p xs)) ≤ length (x ∷ xs)
+    by rest true = omega (arith, rest)
+    by rest false = omega (arith, rest)
+
+-- so many triples need no more calls
+pub few_inputs : {S M : Type 0} (rules : Rules S M) (k : ℕ) (triples : List (Piece (S × List M))) (i : ℕ) → i ≤ length triples → length (inputs_of rules k (take i triples)) ≤ i
+few_inputs rules k triples i within =
+    omega (arith, length-filter-le (λ (x : Piece _). pair_computes rules k x.value) (take i triples), length-take-le i triples within)
+
+-- what was made of the triples of a vertex's states and box are its states and what it sends, and the
+-- triples that compute are its inputs
+module _ {S M : Type 0} (rules : Rules S M) (k : ℕ) (pieces : List (Piece S)) (box : List (Message M)) (triples : List (Piece (S × List M))) (runs : AreRuns (warped rules.order All (value_at pieces) box) triples) where
+  pub states-made : (new : List (Piece S)) → AreMade (λ pair. next_state (left_of_pair rules k pair)) triples new → AreRuns (λ t. state_of (left_of rules k pieces box t)) new
+  states-made new made = record {
+    in_order = made.runs.in_order;
+    values = λ t. made.runs.values t ∙ ap (option_and_then (λ pair. next_state (left_of_pair rules k pair))) (runs.values t) ∙ by (notes_at rules.order box t) (value_at pieces t);
+  }
+    where
+      by : (notes : List M) (o : Option S) → option_and_then (λ pair. next_state (left_of_pair rules k pair)) (option_map (λ state. (state, notes)) o) ≡ state_of (left_at rules k o notes)
+      by notes None = refl
+      by notes (Some state) = refl
+
+  pub sent-made : (new : List (Piece S)) → AreMade (λ pair. sent_state (left_of_pair rules k pair)) triples new → AreRuns (λ t. sent_of (left_of rules k pieces box t)) new
+  sent-made new made = record {
+    in_order = made.runs.in_order;
+    values = λ t. made.runs.values t ∙ ap (option_and_then (λ pair. sent_state (left_of_pair rules k pair))) (runs.values t) ∙ by (notes_at rules.order box t) (value_at pieces t);
+  }
+    where
+      by : (notes : List M) (o : Option S) → option_and_then (λ pair. sent_state (left_of_pair rules k pair)) (option_map (λ state. (state, notes)) o) ≡ sent_of (left_at rules k o notes)
+      by notes None = refl
+      by notes (Some state) = refl
+
+  pub inputs-made : AreRuns (input_to rules k pieces box) (inputs_of rules k triples)
+  inputs-made = record {
+    in_order = IsChain-filter (pair_computes rules k) triples runs.in_order;
+    values = λ t. value_at-filter (pair_computes rules k) triples t runs.in_order ∙ ap (option_and_then (passing (pair_computes rules k))) (runs.values t) ∙ by (notes_at rules.order box t) (value_at pieces t);
+  }
+    where
+      by : (notes : List M) (o : Option S) → option_and_then (passing (pair_computes rules k)) (option_map (λ state. (state, notes)) o) ≡ input_with rules k o notes
+      by notes None = refl
+      by notes (Some state) = refl
+
+  pub Calls-made : (before after : ℕ) → after ≡ before + length (inputs_of rules k triples) → Calls rules k pieces box before after
+  Calls-made before after counted = record { inputs = inputs_of rules k triples; inputs_are = inputs-made; counted = counted }
+
+  pub NoMoreCalls-made : (before after : ℕ) → after ≤ before + length (inputs_of rules k triples) → NoMoreCalls rules k pieces box before after
+  NoMoreCalls-made before after at_most = inr (record { inputs = inputs_of rules k triples; inputs_are = inputs-made; at_most = at_most })
+
+-- what follows of a result's value, and of what holds in any case
+pub IfOk-then : {X E : Type 0} (r : Result X E) (P Q : X → Type 0) → IfOk r P → ((x : X) → P x → Q x) → IfOk r Q
+IfOk-then (Ok x) P Q h then = then x h
+IfOk-then (Err e) P Q h then = tt
+
+pub OnErr-from : {X E : Type 0} (r : Result X E) (P : Type 0) → P → OnErr r P
+OnErr-from (Ok x) P h = tt
+OnErr-from (Err e) P h = h

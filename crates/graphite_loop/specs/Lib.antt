@@ -1,0 +1,8 @@
+pub mod Letters
+pub mod Points
+pub mod Progress
+pub mod Run
+pub mod Superstep
+pub mod Sweep
+pub mod Vertex
+pub mod Walk

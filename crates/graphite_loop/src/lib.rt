@@ -1,0 +1,18 @@
+//! Supersteps over all instants at once: each vertex computes once for each maximal interval on
+//! which its state and the notes that it is told are the same.
+#![tactic(auto)]
+
+mod letter;
+mod points;
+mod run;
+mod scatter;
+mod steps;
+#[cfg(test)]
+mod tests;
+mod vertex;
+mod walk;
+
+pub use letter::Letter;
+pub use points::run_points;
+pub use run::Run;
+pub use steps::{Ran, run_steps};

@@ -1,0 +1,118 @@
+//! A superstep at one vertex.
+ghost use Rattle.std.specs.Prelude.{◌≡◌, ◌+◌, ◌^◌, ◌<◌, ◌≤◌, if◌then◌else◌, length, IfOk, OnOk, OnErr};
+ghost use Rattle.graphite_time.specs.Interval.{start_of};
+ghost use Rattle.graphite_part.specs.Pieces.{IsChain, AreRuns, last_end};
+ghost use Rattle.graphite_loop.specs.Sweep.{computes, left_with, state_of, sent_of};
+ghost use Rattle.graphite_loop.specs.Vertex.{rules_of, left_of, left_of_pair, next_state, sent_state, inputs_of, Put, AreMade, Calls, NoMoreCalls};
+
+use graphite_api::{Message, Next, Program};
+use graphite_part::{Partition, Plain};
+use graphite_time::{Interval, NoMemory};
+use graphite_warp::{Touch, Triple, warp};
+use std::alloc::Global;
+
+/// What a superstep leaves of a vertex: its states, and those of them that it sends.
+#[derive(Drop)]
+pub(crate) struct Left<S: Plain> {
+    pub states: Partition<S>,
+    pub sent: Partition<S>,
+}
+
+/// Makes a superstep at a vertex that has these states and these messages.
+pub(crate) fn compute_vertex<P: Program>(
+    alloc: Global,
+    program: &mut P,
+    step: u32,
+    states: &Partition<P::State>,
+    messages: &[Message<P::Note>],
+) -> Result<Left<P::State>, NoMemory>
+    requires step { 1 ≤ step }
+    requires room { P.count program.old + 2 ^ 64 < 2 ^ 128 }
+    ensures states { IfOk result (λ left. AreRuns (λ t. state_of (left_of
+        (rules_of P.next_of P.message_of P.Note.cmp P.ALWAYS) step states.now messages.now t)) left.states) }
+    ensures sent { IfOk result (λ left. AreRuns (λ t. sent_of (left_of
+        (rules_of P.next_of P.message_of P.Note.cmp P.ALWAYS) step states.now messages.now t)) left.sent) }
+    ensures counted { IfOk result (λ _. Calls
+        (rules_of P.next_of P.message_of P.Note.cmp P.ALWAYS) step states.now messages.now
+        (P.count program.old) (P.count program.new)) }
+    ensures at_most { OnErr result (NoMoreCalls
+        (rules_of P.next_of P.message_of P.Note.cmp P.ALWAYS) step states.now messages.now
+        (P.count program.old) (P.count program.new)) }
+    ensures few { P.count program.new ≤ P.count program.old + 2 ^ 64 }
+{
+    let triples = warp(alloc, states, messages, Touch::All)?;
+    compute_parts(alloc, program, step, &triples)
+}
+
+/// Makes a superstep at a vertex whose states were aligned with its messages.
+fn compute_parts<P: Program>(
+    alloc: Global,
+    program: &mut P,
+    step: u32,
+    triples: &[Triple<P::State, P::Note>],
+) -> Result<Left<P::State>, NoMemory>
+    requires step { 1 ≤ step }
+    requires room { P.count program.old + 2 ^ 64 < 2 ^ 128 }
+    requires chain { IsChain triples.now }
+    ensures states { IfOk result (λ left. AreMade (λ pair. next_state (left_of_pair
+        (rules_of P.next_of P.message_of P.Note.cmp P.ALWAYS) step pair)) triples.now left.states) }
+    ensures sent { IfOk result (λ left. AreMade (λ pair. sent_state (left_of_pair
+        (rules_of P.next_of P.message_of P.Note.cmp P.ALWAYS) step pair)) triples.now left.sent) }
+    ensures counted { IfOk result (λ _. P.count program.new ≡ P.count program.old
+        + length (inputs_of (rules_of P.next_of P.message_of P.Note.cmp P.ALWAYS) step triples.now)) }
+    ensures at_most { P.count program.new ≤ P.count program.old
+        + length (inputs_of (rules_of P.next_of P.message_of P.Note.cmp P.ALWAYS) step triples.now) }
+    ensures few { P.count program.new ≤ P.count program.old + 2 ^ 64 }
+{
+    let mut left = Left {
+        states: Partition::new(alloc),
+        sent: Partition::new(alloc),
+    };
+    for triple in triples {
+        let next = compute_part(program, step, triple.state(), triple.group());
+        push_part(&mut left, triple.over(), next)?;
+    }
+    Ok(left)
+}
+
+/// What a vertex is left with at instants at which it has this state and this group.
+fn compute_part<P: Program>(
+    program: &mut P,
+    step: u32,
+    state: P::State,
+    group: &[P::Note],
+) -> Next<P::State>
+    requires step { 1 ≤ step }
+    requires room { P.count program.old + 1 < 2 ^ 128 }
+    ensures next { result ≡ left_with (rules_of P.next_of P.message_of P.Note.cmp P.ALWAYS)
+        step state group.now }
+    ensures counted { P.count program.new ≡ P.count program.old
+        + (if computes (rules_of P.next_of P.message_of P.Note.cmp P.ALWAYS) step group.now then 1 else 0) }
+{
+    if computes::<P>(step, group) {
+        program.compute(step, state, group)
+    } else {
+        Next { state, send: false }
+    }
+}
+
+/// Whether a vertex with this group computes in a superstep.
+fn computes<P: Program>(step: u32, group: &[P::Note]) -> bool
+    ensures { result ≡ computes (rules_of P.next_of P.message_of P.Note.cmp P.ALWAYS) step group.now }
+{
+    step == 1 || P::ALWAYS || !group.is_empty()
+}
+
+/// Adds what a vertex is left with over an interval that comes after the others.
+fn push_part<S: Plain>(left: &mut Left<S>, over: Interval, next: Next<S>) -> Result<(), NoMemory>
+    requires states { last_end left.old.states ≤ start_of over }
+    requires sent { last_end left.old.sent ≤ start_of over }
+    ensures states { OnOk result (Put left.old.states left.new.states over (next_state next)) }
+    ensures sent { OnOk result (Put left.old.sent left.new.sent over (sent_state next)) }
+{
+    left.states.push(over, next.state)?;
+    if next.send {
+        left.sent.push(over, next.state)?;
+    }
+    Ok(())
+}
