@@ -1,0 +1,58 @@
+-- Links of small graphs at an instant, by computing.
+use Rattle.std.proofs.Common.{◌≡◌, ℕ, List, [], ◌∷◌, Some, None, refl}
+use Rattle.std.specs.Prelude.{codes}
+use Rattle.graphite_text.specs.declared.span.Span.{Span}
+use Rattle.graphite_text.specs.Graph.{PlainGraph, PlainVertex, PlainEdge}
+use Rattle.graphite_api.specs.Snapshot.{Link}
+use Rattle.graphite_hops.specs.declared.direction.Direction.TheVariants.{Out, Both}
+use Rattle.graphite_hops.specs.Links.{links_at, links_in}
+use Rattle.graphite_hops.specs.Arcs.{travel_at}
+
+abbrev span : ℕ → ℕ → Span
+span a b = record { a = a; b = b }
+
+abbrev vertex : List ℕ → ℕ → ℕ → PlainVertex
+vertex name a b = record { name = name; life = span a b ∷ [] }
+
+abbrev edge : List ℕ → ℕ → ℕ → ℕ → ℕ → PlainEdge
+edge name from to a b = record { name = name; from = from; to = to; life = span a b ∷ [] }
+
+abbrev link : ℕ → ℕ → ℕ → ℕ → Link
+link from to time cost = record { from = from; to = to; time = time; cost = cost }
+
+-- an edge from a to b, which costs 5 at the instants 2 to 5 and takes 3 at the instants 4 to 9; one from b to itself at 1 and 2
+abbrev graph : PlainGraph
+graph = record {
+  horizon = 20;
+  vertices = vertex (codes "a") 0 20 ∷ vertex (codes "b") 0 20 ∷ [];
+  edges = edge (codes "x") 0 1 0 10 ∷ edge (codes "y") 1 1 1 3 ∷ [];
+  vertex_properties = record { owner = 0; key = codes "cost"; over = span 0 20; value = 9 } ∷ [];
+  edge_properties = record { owner = 0; key = codes "cost"; over = span 2 6; value = 5 } ∷ record { owner = 0; key = codes "time"; over = span 4 10; value = 3 } ∷ [];
+}
+
+links_at_0 : links_at graph 0 ≡ link 0 1 1 1 ∷ []
+links_at_0 = refl
+
+links_at_2 : links_at graph 2 ≡ link 0 1 1 5 ∷ link 1 1 1 1 ∷ []
+links_at_2 = refl
+
+links_at_5 : links_at graph 5 ≡ link 0 1 3 5 ∷ []
+links_at_5 = refl
+
+links_at_9 : links_at graph 9 ≡ link 0 1 3 1 ∷ []
+links_at_9 = refl
+
+links_at_10 : links_at graph 10 ≡ []
+links_at_10 = refl
+
+out_at_2 : links_in Out (links_at graph 2) ≡ link 0 1 1 5 ∷ link 1 1 1 1 ∷ []
+out_at_2 = refl
+
+both_at_2 : links_in Both (links_at graph 2) ≡ link 0 1 1 5 ∷ link 1 1 1 1 ∷ link 1 0 1 5 ∷ link 1 1 1 1 ∷ []
+both_at_2 = refl
+
+travel_at_3 : travel_at graph 0 3 ≡ Some (1, 5)
+travel_at_3 = refl
+
+travel_at_10 : travel_at graph 0 10 ≡ None
+travel_at_10 = refl

@@ -1,0 +1,4 @@
+mod Examples
+pub mod LinkLemmas
+pub mod OverlayLemmas
+pub mod TravelLemmas
