@@ -145,7 +145,7 @@ impl Partition<u32> {
     }
 }
 
-/// A piece for each lifespan.
+/// A piece for each lifespan, with room for no others: most lives have only one.
 fn pieces_on<T: Plain>(
     alloc: Global,
     spans: &[Interval],
@@ -153,8 +153,11 @@ fn pieces_on<T: Plain>(
 ) -> Result<Vec<Piece<T>>, NoMemory>
     ensures { IfOk result (λ pieces. pieces.items ≡ map (piece_on value) spans.now) }
 {
-    let pieces = spans.iter().map(|over| Piece { over: *over, value });
-    Ok(pieces.collect(alloc)?)
+    let mut pieces = Vec::with_capacity(alloc, spans.len())?;
+    for over in spans {
+        pieces.push(Piece { over: *over, value })?;
+    }
+    Ok(pieces)
 }
 
 /// The pieces, with a value painted over an interval.
