@@ -1,3 +1,4 @@
 pub mod Properties
 pub mod Rows
 pub mod Store
+pub mod Hasher

@@ -4,6 +4,7 @@
 #![tactic(auto)]
 
 mod fault;
+mod hasher;
 mod keys;
 mod meets;
 mod places;

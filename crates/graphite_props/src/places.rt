@@ -3,6 +3,7 @@ ghost use Rattle.std.specs.Prelude.{◌≡◌, [], OnOk, OnErr};
 ghost use Rattle.graphite_part.specs.Pieces.{value_at, painted, AreRuns};
 ghost use Rattle.graphite_props.specs.Store.{timelines_of, Place, IsPainted};
 
+use crate::hasher::PlaceHashers;
 use graphite_part::Partition;
 use graphite_time::{Interval, NoMemory};
 use indexmap::IndexMap;
@@ -11,7 +12,7 @@ use std::alloc::Global;
 /// Paints a value over the timeline of an owner and key, which may be a new one.
 pub(crate) fn paint_timeline(
     alloc: Global,
-    timelines: &mut IndexMap<(u32, u32), Partition<u32>>,
+    timelines: &mut IndexMap<(u32, u32), Partition<u32>, PlaceHashers>,
     place: (u32, u32),
     over: Interval,
     value: u32,

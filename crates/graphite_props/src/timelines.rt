@@ -9,6 +9,7 @@ ghost use Rattle.graphite_props.specs.declared.fault.AddFault.TheVariants.{Overl
 ghost use Rattle.graphite_props.specs.Properties.{has_property, keys_of, property};
 ghost use Rattle.graphite_props.specs.Rows.{properties_of};
 
+use crate::hasher::PlaceHashers;
 use crate::keys::{add_key, next_number};
 use crate::meets::meets;
 use crate::places::paint_timeline;
@@ -26,7 +27,7 @@ pub struct Timelines<'a> {
     keys: IndexSet<&'a [u8]>,
     rows: Vec<PropRow>,
     /// The values by instant, for each owner and number of a key that have some.
-    timelines: IndexMap<(u32, u32), Partition<u32>>,
+    timelines: IndexMap<(u32, u32), Partition<u32>, PlaceHashers>,
 }
 
 impl<'a> Model for Timelines<'a> {
@@ -50,7 +51,7 @@ impl<'a> Timelines<'a> {
         Timelines {
             keys: IndexSet::new(alloc),
             rows: Vec::new(alloc),
-            timelines: IndexMap::new(alloc),
+            timelines: IndexMap::with_hasher(alloc, PlaceHashers::new()),
         }
     }
 
