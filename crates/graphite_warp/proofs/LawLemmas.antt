@@ -76,3 +76,9 @@ module _ {M : Type 0} (R : M → M → Ordering) (o : IsTotalOrder R) where
       let asked : is_asked touch xs t ≡ is_asked touch ys t = sym (asks-notes_at R touch xs t) ∙ ap (asks_for touch) notes ∙ asks-notes_at R touch ys t in
       ap (λ b. cond b (option_map (λ state. (state, notes_at R xs t)) (states t)) None) asked
       ∙ ap (λ ns. cond (is_asked touch ys t) (option_map (λ state. (state, ns)) (states t)) None) notes
+
+  pub AreRuns-permutation : {S : Type 0} (touch : Touch) (states : ℕ → Option S) → IsExact R → (xs ys : List (Message M)) (triples : List (Piece (S × List M))) → IsPermutation xs ys → AreRuns (warped R touch states ys) triples → AreRuns (warped R touch states xs) triples
+  AreRuns-permutation touch states exact xs ys triples moved runs = record {
+    in_order = runs.in_order;
+    values = λ t. runs.values t ∙ sym (warped-permutation touch states exact xs ys t moved);
+  }

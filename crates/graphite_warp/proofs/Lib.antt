@@ -1,5 +1,6 @@
 pub mod Examples
 pub mod LawLemmas
+pub mod OrderedLemmas
 pub mod SortedLemmas
 pub mod TripleLemmas
 pub mod WarpLemmas

@@ -3,11 +3,11 @@ ghost use Rattle.std.specs.List.Sorted.{IsNonDecreasing, IsPermutation};
 ghost use Rattle.graphite_time.specs.Interval.{start_of, end_of};
 ghost use Rattle.graphite_part.specs.Pieces.{value_at, last_end, IsChain, AreRuns};
 ghost use Rattle.graphite_part.specs.Fills.{Filled};
-ghost use Rattle.graphite_warp.specs.Warp.{held_notes, notes_at, warped, IsSteady};
+ghost use Rattle.graphite_warp.specs.Warp.{warped, IsSteady};
 
 use crate::append::push_triple;
 use crate::ends::{next_end, sorted_ends};
-use crate::sort::sort_notes;
+use crate::ordered::Ordered;
 use crate::{Message, Touch, Triple};
 use graphite_part::{Partition, Piece, Plain};
 use graphite_time::{Interval, NoMemory};
@@ -26,15 +26,16 @@ pub fn warp<S: Plain, M: Plain>(
     ensures { IfOk result (λ triples. AreRuns
         (warped M.cmp touch (value_at states.now) messages.now) triples.items) }
 {
-    let ends = sorted_ends(alloc, messages)?;
-    warped_pieces(alloc, states.pieces(), messages, &ends, touch)
+    let ordered = Ordered::new(alloc, messages)?;
+    let ends = sorted_ends(alloc, ordered.messages())?;
+    warped_pieces(alloc, states.pieces(), &ordered, &ends, touch)
 }
 
 /// The triples of all pieces.
 fn warped_pieces<S: Plain, M: Plain>(
     alloc: Global,
     pieces: &[Piece<S>],
-    messages: &[Message<M>],
+    messages: &Ordered<M>,
     ends: &[u64],
     touch: Touch,
 ) -> Result<Vec<Triple<S, M>>, NoMemory>
@@ -59,7 +60,7 @@ fn push_parts<S: Plain, M: Plain>(
     out: &mut Vec<Triple<S, M>>,
     whole: Interval,
     state: S,
-    messages: &[Message<M>],
+    messages: &Ordered<M>,
     ends: &[u64],
     touch: Touch,
 ) -> Result<(), NoMemory>
@@ -87,7 +88,7 @@ fn push_part<S: Plain, M: Plain>(
     out: &mut Vec<Triple<S, M>>,
     over: Interval,
     state: S,
-    messages: &[Message<M>],
+    messages: &Ordered<M>,
     touch: Touch,
 ) -> Result<(), NoMemory>
     requires chain { IsChain out.old.items }
@@ -96,27 +97,10 @@ fn push_part<S: Plain, M: Plain>(
     ensures { OnOk result (Filled (warped M.cmp touch (λ _. Some state) messages.now)
         out.old.items out.new.items (start_of over) (end_of over)) }
 {
-    let group = notes_of(*out.allocator(), messages, over.a())?;
+    let group = messages.notes_at(*out.allocator(), over.a())?;
     if !touch.asks_for(&group) {
         return Ok(());
     }
     push_triple(out, over, state, group)?;
     Ok(())
-}
-
-/// The notes of the messages that hold the instant, in rising order.
-fn notes_of<M: Plain>(alloc: Global, messages: &[Message<M>], t: u64) -> Result<Vec<M>, NoMemory>
-    ensures { IfOk result (λ notes. notes.items ≡ notes_at M.cmp messages.now t) }
-{
-    let mut notes = held_notes(alloc, messages, t)?;
-    sort_notes(&mut notes);
-    Ok(notes)
-}
-
-/// The notes of the messages that hold the instant, in their order.
-fn held_notes<M: Plain>(alloc: Global, messages: &[Message<M>], t: u64) -> Result<Vec<M>, NoMemory>
-    ensures { IfOk result (λ notes. notes.items ≡ held_notes messages.now t) }
-{
-    let held = messages.iter().filter(|message| message.over.holds(t));
-    Ok(held.map(|message| message.note).collect(alloc)?)
 }

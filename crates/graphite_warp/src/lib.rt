@@ -6,6 +6,7 @@ mod append;
 mod ends;
 mod laws;
 mod message;
+mod ordered;
 mod sort;
 #[cfg(test)]
 mod tests;

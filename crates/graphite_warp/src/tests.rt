@@ -59,6 +59,30 @@ fn touching_parts_of_equal_notes_are_one(rt: HostRuntime) -> Result<(), Fail> {
 }
 
 #[test]
+fn a_long_message_meets_short_ones(rt: HostRuntime) -> Result<(), Fail> {
+    let states = states(rt.alloc())?;
+    let messages = [
+        message(4, 6, 1)?,
+        message(0, 9, 5)?,
+        message(2, 3, 1)?,
+        message(4, 5, 1)?,
+    ];
+    let triples = warp(rt.alloc(), &states, &messages, Touch::Touched)?;
+    assert_triples(
+        &rt,
+        &triples,
+        &[
+            (0, 2, &[5]),
+            (2, 3, &[1, 5]),
+            (3, 4, &[5]),
+            (4, 5, &[1, 1, 5]),
+            (5, 6, &[1, 5]),
+        ],
+    );
+    Ok(())
+}
+
+#[test]
 fn all_instants_without_messages(rt: HostRuntime) -> Result<(), Fail> {
     let states = states(rt.alloc())?;
     let (triples, again) = warped_in_two_orders(rt.alloc(), &states, &[], &[], Touch::All)?;
