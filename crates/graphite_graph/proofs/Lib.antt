@@ -3,9 +3,13 @@ pub mod LifeLemmas
 pub mod StoreLemmas
 pub mod LineLemmas
 pub mod NameLemmas
+pub mod NumberedLemmas
 pub mod StepLemmas
 pub mod RecordLemmas
 pub mod ReadingLemmas
 pub mod PropertyLemmas
 pub mod ShowLemmas
 pub mod TravelLemmas
+pub mod DepartureLemmas
+pub mod DegreeLemmas
+pub mod FactsLemmas

@@ -1,6 +1,12 @@
 pub mod Life
 pub mod Store
 pub mod Ends
+pub mod Numbered
+pub mod Names
 pub mod Step
 pub mod Load
 pub mod Show
+pub mod Facts
+pub mod FactsLaws
+pub mod Departure
+pub mod Covered

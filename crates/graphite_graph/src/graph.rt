@@ -13,6 +13,7 @@ use crate::ends::Ends;
 use crate::store::Store;
 use graphite_props::Timelines;
 use graphite_time::{Life, NoMemory};
+use std::alloc::Global;
 use std::marker::Model;
 
 /// A graph over the instants below its horizon, as a text was accepted with it. Vertices and edges
@@ -43,6 +44,11 @@ impl<'a> Graph<'a> {
         ensures { result ≡ store.entry }
     {
         Graph { store }
+    }
+
+    /// What the graph takes its memory from.
+    pub(crate) fn allocator(&self) -> Global {
+        self.store.allocator()
     }
 
     /// Appends the canonical text: the header, the vertices, the edges, the properties of the

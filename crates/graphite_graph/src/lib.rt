@@ -3,16 +3,21 @@
 //! A [`Graph`] is seen in contracts as the plain graph that `graphite_text`'s specs define.
 #![tactic(auto)]
 
+mod departure;
 mod ends;
+mod facts;
 mod fault;
 mod graph;
+mod hashed;
 mod names;
+mod numbered;
 mod reader;
 mod reading;
 mod show;
 mod store;
 
 pub use ends::Ends;
+pub use facts::{Ask, Facts};
 pub use graph::Graph;
 pub use names::Names;
 pub use reading::{LoadFault, load};

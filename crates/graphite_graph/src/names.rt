@@ -1,8 +1,9 @@
-ghost use Rattle.std.specs.Prelude.{◌≡◌, ◌<◌, ◌^◌, [], ◌∷◌, ◌++◌, Some, slice_get, length, position, is_none, if◌then◌else◌, true, IfSome, IfOk, OnErr};
+ghost use Rattle.std.specs.Prelude.{◌≡◌, ◌<◌, ◌^◌, [], ◌∷◌, ◌++◌, Some, slice_get, length, position, is_none, if◌then◌else◌, IfSome, IfOk, OnErr};
 ghost use Rattle.std.specs.Str.{bytes_eq};
 
+use crate::hashed::HashedNames;
+use crate::numbered::NumberedNames;
 use graphite_time::NoMemory;
-use indexmap::IndexSet;
 use std::alloc::Global;
 use std::marker::Model;
 
@@ -10,17 +11,24 @@ use std::marker::Model;
 /// stay in the text that they were read from.
 #[derive(Drop)]
 pub struct Names<'a> {
-    set: IndexSet<&'a [u8]>,
+    kept: Kept<'a>,
+}
+
+/// Programs that write graphs mostly number the names, so names have a table of hashes only from
+/// the first one on that is out of turn.
+#[derive(Drop)]
+pub(crate) enum Kept<'a> {
+    Numbered(NumberedNames<'a>),
+    Hashed(HashedNames<'a>),
 }
 
 impl<'a> Model for Names<'a> {
-    ghost use Rattle.std.specs.Prelude.{List, ℕ, map, length, ◌≤◌, ◌^◌};
+    ghost use Rattle.std.specs.Prelude.{List, ℕ};
+    ghost use Rattle.graphite_graph.specs.Names.{names_of};
 
     ghost Value = { List (List ℕ) };
 
-    ghost view = { λ names. map (λ name. name.now) names.set.keys };
-
-    ghost invariant = { λ names. length names.set.keys ≤ 2 ^ 22 };
+    ghost view = { λ names. names_of names.kept };
 }
 
 impl<'a> Names<'a> {
@@ -29,7 +37,7 @@ impl<'a> Names<'a> {
         ensures { result ≡ [] }
     {
         Names {
-            set: IndexSet::new(alloc),
+            kept: Kept::Numbered(NumberedNames::new(alloc)),
         }
     }
 
@@ -37,7 +45,10 @@ impl<'a> Names<'a> {
     pub fn len(&self) -> u32
         ensures { result ≡ length self.now }
     {
-        self.set.len() as u32
+        match &self.kept {
+            Kept::Numbered(names) => names.len(),
+            Kept::Hashed(names) => names.len(),
+        }
     }
 
     /// The number of a name.
@@ -45,9 +56,9 @@ impl<'a> Names<'a> {
         ensures number { result ≡ position (bytes_eq name.now) self.now }
         ensures within { IfSome result (λ number. number < length self.now) }
     {
-        match self.set.get_index_of(name) {
-            Some(number) => Some(number as u32),
-            None => None,
+        match &self.kept {
+            Kept::Numbered(names) => names.number_of(name),
+            Kept::Hashed(names) => names.number_of(name),
         }
     }
 
@@ -57,24 +68,9 @@ impl<'a> Names<'a> {
         ensures number { result ≡ position (bytes_eq name.now) self.now }
         ensures within { IfSome result (λ number. number < length self.now) }
     {
-        if self.has_at(guess as usize, name) {
-            return Some(guess);
-        }
-        let next = guess.saturating_add(1);
-        if self.has_at(next as usize, name) {
-            return Some(next);
-        }
-        self.number_of(name)
-    }
-
-    /// Whether a name has a number.
-    fn has_at(&self, number: usize, name: &[u8]) -> bool
-        ensures place { result ≡ true → position (bytes_eq name.now) self.now ≡ Some number }
-        ensures within { result ≡ true → number < length self.now }
-    {
-        match self.set.as_slice().get(number) {
-            Some(stored) => name == *stored,
-            None => false,
+        match &self.kept {
+            Kept::Numbered(names) => names.number_of(name),
+            Kept::Hashed(names) => names.number_near(name, guess),
         }
     }
 
@@ -83,7 +79,10 @@ impl<'a> Names<'a> {
         requires { number < length self.now }
         ensures { slice_get self.now number ≡ Some result.now }
     {
-        self.set.as_slice()[number as usize]
+        match &self.kept {
+            Kept::Numbered(names) => names.name_at(number),
+            Kept::Hashed(names) => names.name_at(number),
+        }
     }
 
     /// Adds a name, and answers `true`, where it is new. Where it is not, nothing changes.
@@ -93,7 +92,17 @@ impl<'a> Names<'a> {
         ensures names { IfOk result (λ added. self.new ≡ (if added then self.old ++ name.now ∷ [] else self.old)) }
         ensures err { OnErr result (self.new ≡ self.old) }
     {
-        let (_, added) = self.set.insert_full(name)?;
+        let mut hashed = match &mut self.kept {
+            Kept::Hashed(names) => return names.insert(name),
+            Kept::Numbered(names) => {
+                if names.push_next(name)? {
+                    return Ok(true);
+                }
+                names.to_hashed()?
+            }
+        };
+        let added = hashed.insert(name)?;
+        self.kept = Kept::Hashed(hashed);
         Ok(added)
     }
 }

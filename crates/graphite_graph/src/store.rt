@@ -93,6 +93,11 @@ impl<'a> Store<'a> {
         }
     }
 
+    /// What the graph takes its memory from.
+    pub(crate) fn allocator(&self) -> Global {
+        *self.edge_ends.allocator()
+    }
+
     /// Moves the horizon of a graph with no vertices.
     pub(crate) fn set_horizon(&mut self, horizon: u64)
         requires in_range { horizon ≤ LAST }

@@ -1,4 +1,5 @@
 use super::*;
+use graphite_part::Partition;
 use graphite_time::Interval;
 use std::alloc::{AllocError, Global};
 use std::process::Abort;
@@ -62,6 +63,34 @@ fn three_stops_are_loaded(rt: HostRuntime) -> Result<(), Fail> {
     read_vertex(&rt, &graph);
     read_edge(&rt, &graph);
     Ok(())
+}
+
+#[test]
+fn facts_change_where_an_edge_begins_or_ends(rt: HostRuntime) -> Result<(), Fail> {
+    let graph = load(rt.alloc(), three_stops())?;
+    let facts = graph.facts(&Ask { outdegree: true })?;
+    assert_eq!(rt; facts.len(), 3);
+    assert_outdegrees(&rt, &facts[0], &[(0, 5, 1), (5, 10, 0)]);
+    assert_outdegrees(&rt, &facts[1], &[(0, 3, 0), (3, 7, 1), (7, 10, 0)]);
+    assert_outdegrees(&rt, &facts[2], &[(2, 8, 0)]);
+    let last = Facts {
+        vertex: 2,
+        outdegree: 0,
+        n: 0,
+        prop: None,
+    };
+    assert_eq!(rt; facts[2].at(2), Some(last));
+    Ok(())
+}
+
+fn assert_outdegrees(rt: &impl Abort, facts: &Partition<Facts>, expected: &[(u64, u64, u32)]) {
+    let pieces = facts.pieces();
+    assert_eq!(rt; pieces.len(), expected.len());
+    for (piece, (a, b, outdegree)) in pieces.iter().zip(expected) {
+        assert_eq!(rt; piece.over.a(), *a);
+        assert_eq!(rt; piece.over.b(), *b);
+        assert_eq!(rt; piece.value.outdegree, *outdegree);
+    }
 }
 
 #[test]

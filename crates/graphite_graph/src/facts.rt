@@ -1,0 +1,166 @@
+ghost use Rattle.std.specs.Prelude.{◌≡◌, ◌<◌, ◌≤◌, ◌^◌, ℕ, length, vec_len, slice_index_or, [], IfOk};
+ghost use Rattle.std.specs.Option.{ForSome};
+ghost use Rattle.graphite_time.specs.Life.{IsLife};
+ghost use Rattle.graphite_part.specs.Pieces.{AreRuns};
+ghost use Rattle.graphite_part.specs.PlainLaws.{not_small};
+ghost use Rattle.graphite_graph.specs.FactsLaws.{facts_exact};
+ghost use Rattle.graphite_graph.specs.Facts.{facts_at, AreMadeOf};
+ghost use Rattle.graphite_graph.specs.Departure.{departing, GoFrom};
+ghost use Rattle.graphite_graph.specs.Covered.{facts_with, asked_degree, covered_facts};
+
+use crate::Graph;
+use crate::departure::{Departure, sorted_departures, take_covers};
+use graphite_part::{Partition, Plain};
+use graphite_time::{Interval, Life, NoMemory};
+use std::alloc::Global;
+
+/// Which facts of the vertices are wanted.
+#[derive(Clone, Copy, Debug, PartialEq, Eq)]
+pub struct Ask {
+    /// The number of edges that are alive and lead out of the vertex.
+    pub outdegree: bool,
+}
+
+/// What holds of a vertex at an instant of its life.
+#[derive(Clone, Copy, Debug, PartialEq, Eq, PartialOrd, Ord)]
+pub struct Facts {
+    /// Its number.
+    pub vertex: u32,
+    /// How many edges that are alive lead out of it, at most 2,097,152; 0 where that is not asked.
+    pub outdegree: u32,
+    /// How many vertices are alive; 0, since no program asks for it yet.
+    pub n: u32,
+    /// The value of a property; `None`, since no program asks for one yet.
+    pub prop: Option<u32>,
+}
+
+impl Plain for Facts {
+    ghost exact = { facts_exact };
+
+    ghost small = { not_small };
+}
+
+impl Facts {
+    /// The facts of a vertex with this out-degree.
+    fn with_outdegree(vertex: u32, outdegree: u32) -> Facts
+        ensures { result ≡ facts_with vertex outdegree }
+    {
+        Facts {
+            vertex,
+            outdegree,
+            n: 0,
+            prop: None,
+        }
+    }
+}
+
+impl<'a> Graph<'a> {
+    /// For each vertex, in the order of their numbers, its facts at exactly the instants of its life.
+    /// Where out-degrees are not asked no edge is looked at. Refused only where memory is short.
+    pub fn facts(&self, ask: &Ask) -> Result<Vec<Partition<Facts>>, NoMemory>
+        ensures len { IfOk result (λ facts. vec_len facts ≡ length self.now.vertices) }
+        ensures facts { IfOk result (λ facts. (v : ℕ) → v < length self.now.vertices
+            → AreRuns (facts_at self.now ask.now v) (slice_index_or facts.items v [])) }
+    {
+        self.map_facts(self.allocator(), ask, &|facts: Facts| facts)
+    }
+
+    /// For each vertex, in the order of their numbers, what `f` makes of its facts, at exactly the
+    /// instants of its life. `f` may be called on the facts of every vertex at every instant of its
+    /// life. Where out-degrees are not asked no edge is looked at. Refused only where memory is short.
+    pub fn map_facts<T: Plain, F: Fn(Facts) -> T>(
+        &self,
+        alloc: Global,
+        ask: &Ask,
+        f: &F,
+    ) -> Result<Vec<Partition<T>>, NoMemory>
+        requires { (v t : ℕ) → ForSome (facts_at self.now ask.now v t) (F.pre f.now) }
+        ensures len { IfOk result (λ made. vec_len made ≡ length self.now.vertices) }
+        ensures made { IfOk result (λ made. (v : ℕ) → v < length self.now.vertices
+            → AreMadeOf (F.post f.now) (facts_at self.now ask.now v) (slice_index_or made.items v [])) }
+    {
+        let departures = asked_departures(alloc, self, ask)?;
+        made_from(alloc, self, ask, &departures, f)
+    }
+}
+
+/// The departures that are counted: those of all edges, in the order of their vertices, or none
+/// where out-degrees are not asked.
+fn asked_departures(alloc: Global, graph: &Graph<'_>, ask: &Ask) -> Result<Vec<Departure>, NoMemory>
+    ensures ordered { IfOk result (λ all. GoFrom 0 all.items) }
+    ensures counts { IfOk result (λ all. (v t : ℕ) → departing all.items v t ≡ asked_degree graph.now ask.now v t) }
+    ensures few { IfOk result (λ all. vec_len all ≤ 2097152) }
+{
+    if ask.outdegree {
+        return sorted_departures(alloc, graph);
+    }
+    Ok(Vec::new(alloc))
+}
+
+/// What `f` makes of the facts of all vertices, counted from the departures. The facts of one vertex
+/// at a time are made.
+fn made_from<T: Plain, F: Fn(Facts) -> T>(
+    alloc: Global,
+    graph: &Graph<'_>,
+    ask: &Ask,
+    departures: &[Departure],
+    f: &F,
+) -> Result<Vec<Partition<T>>, NoMemory>
+    requires callable { (v t : ℕ) → ForSome (facts_at graph.now ask.now v t) (F.pre f.now) }
+    requires ordered { GoFrom 0 departures.now }
+    requires few { length departures.now < 2 ^ 32 }
+    requires counts { (v t : ℕ) → departing departures.now v t ≡ asked_degree graph.now ask.now v t }
+    ensures len { IfOk result (λ made. vec_len made ≡ length graph.now.vertices) }
+    ensures made { IfOk result (λ made. (v : ℕ) → v < length graph.now.vertices
+        → AreMadeOf (F.post f.now) (facts_at graph.now ask.now v) (slice_index_or made.items v [])) }
+{
+    let mut made = Vec::with_capacity(alloc, graph.vertices() as usize)?;
+    let mut covers = Vec::new(alloc);
+    let mut rest = departures;
+    for v in 0..graph.vertices() {
+        rest = take_covers(rest, v, &mut covers)?;
+        made.push(made_of_vertex(alloc, v, graph.vertex_life(v), &covers, f)?)?;
+    }
+    Ok(made)
+}
+
+/// What `f` makes of the facts of a vertex, where the covers are the lifespans of the edges out of it.
+fn made_of_vertex<T: Plain, F: Fn(Facts) -> T>(
+    alloc: Global,
+    v: u32,
+    life: &Life,
+    covers: &[Interval],
+    f: &F,
+) -> Result<Partition<T>, NoMemory>
+    requires callable { (t : ℕ) → ForSome (covered_facts v life.now covers.now t) (F.pre f.now) }
+    requires life { IsLife life.now }
+    requires few { length covers.now < 2 ^ 32 }
+    ensures { IfOk result (AreMadeOf (F.post f.now) (covered_facts v life.now covers.now)) }
+{
+    // many vertices have no edge out of them, or none is asked for: `f` is then called once
+    if covers.is_empty() {
+        return Partition::on_life(alloc, life, f(Facts::with_outdegree(v, 0)));
+    }
+    made_of_counts(alloc, v, life, covers, f)
+}
+
+/// What `f` makes of the facts of a vertex by counting the covers.
+fn made_of_counts<T: Plain, F: Fn(Facts) -> T>(
+    alloc: Global,
+    v: u32,
+    life: &Life,
+    covers: &[Interval],
+    f: &F,
+) -> Result<Partition<T>, NoMemory>
+    requires callable { (t : ℕ) → ForSome (covered_facts v life.now covers.now t) (F.pre f.now) }
+    requires few { length covers.now < 2 ^ 32 }
+    ensures { IfOk result (AreMadeOf (F.post f.now) (covered_facts v life.now covers.now)) }
+{
+    let mut outdegrees = Partition::on_life(alloc, life, 0)?;
+    outdegrees.add_counts(covers)?;
+    let make = |outdegree: u32| -> T
+        requires { F.pre f.now (facts_with v outdegree) }
+        ensures { F.post f.entry.now (facts_with v outdegree) result }
+    { f(Facts::with_outdegree(v, outdegree)) };
+    outdegrees.map(&make)
+}
