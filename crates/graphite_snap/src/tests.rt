@@ -4,7 +4,11 @@ ghost use Rattle.graphite_api.specs.Plan.{message_over};
 
 use super::*;
 use graphite_api::{Arc, Message, Next, PointProgram, Program};
+use graphite_graph::{Ask, Facts, load};
+use graphite_part::Partition;
 use graphite_time::Interval;
+use std::alloc::Global;
+use std::process::Abort;
 use std::test::Fail;
 
 fn left(state: Option<u32>, send: bool) -> Next<Option<u32>> {
@@ -66,5 +70,99 @@ fn a_search_starts_and_goes_on(rt: HostRuntime) -> Result<(), Fail> {
         Some(Message { over, note: 3 })
     );
     assert_eq!(rt; told_along(&bfs, None, &arc, over), None);
+    Ok(())
+}
+
+/// A vertex, an instant, and what is printed of the vertex then; nothing where it is not alive.
+type Row = (usize, u64, Option<Option<u64>>);
+
+/// Three vertices, and an edge each from the first to the second and from there to the third.
+fn three_stops() -> &'static [u8] {
+    b"graph 1 10\nv a 0 10\nv b 0 10\nv c 2 8\ne ab a b 0 5\ne bc b c 3 7\nend\n"
+}
+
+fn numbers_of_three_stops() -> &'static [Row] {
+    &[
+        (0, 9, Some(Some(0))),
+        (1, 0, Some(Some(1))),
+        (2, 1, None),
+        (2, 2, Some(Some(2))),
+        (2, 8, None),
+    ]
+}
+
+fn degrees_of_three_stops() -> &'static [Row] {
+    &[
+        (0, 4, Some(Some(1))),
+        (0, 5, Some(Some(0))),
+        (1, 2, Some(Some(0))),
+        (1, 3, Some(Some(1))),
+        (1, 7, Some(Some(0))),
+        (2, 7, Some(Some(0))),
+    ]
+}
+
+fn distances_from_the_first_stop() -> &'static [Row] {
+    &[
+        (0, 9, Some(Some(0))),
+        (1, 4, Some(Some(1))),
+        (1, 5, Some(None)),
+        (2, 1, None),
+        (2, 2, Some(None)),
+        (2, 3, Some(Some(2))),
+        (2, 4, Some(Some(2))),
+        (2, 5, Some(None)),
+    ]
+}
+
+fn assert_printed(rt: &impl Abort, values: &[Partition<Option<u64>>], rows: &[Row]) {
+    for row in rows {
+        let (v, t, expected) = *row;
+        let printed = values.get(v).and_then(|values| values.at(t));
+        assert_eq!(rt; printed, expected);
+    }
+}
+
+/// The number of each vertex of the three stops.
+fn numbers(alloc: Global) -> Result<Vec<Partition<Option<u64>>>, Fail> {
+    let graph = load(alloc, three_stops())?;
+    let number = |facts: Facts| Some(u64::from(facts.vertex));
+    Ok(point_start(alloc, &graph, &Ask { outdegree: false }, &number)?)
+}
+
+fn degrees(alloc: Global) -> Result<SnapAnswer, Fail> {
+    let graph = load(alloc, three_stops())?;
+    Ok(run_snap(alloc, &graph, &SnapQuery::Degree, 4)?)
+}
+
+/// A search from the first of the three stops.
+fn distances(alloc: Global) -> Result<SnapAnswer, Fail> {
+    let graph = load(alloc, three_stops())?;
+    if graph.vertices() != 3 {
+        return Err("another graph")?;
+    }
+    Ok(run_snap(alloc, &graph, &SnapQuery::Bfs(0), 4)?)
+}
+
+#[test]
+fn vertices_start_with_what_their_facts_give(rt: HostRuntime) -> Result<(), Fail> {
+    let start = numbers(rt.alloc())?;
+    assert_printed(&rt, &start, numbers_of_three_stops());
+    Ok(())
+}
+
+#[test]
+fn out_degrees_are_printed(rt: HostRuntime) -> Result<(), Fail> {
+    let answer = degrees(rt.alloc())?;
+    assert_eq!(rt; (answer.made, answer.calls), (0, 0));
+    assert_printed(&rt, &answer.values, degrees_of_three_stops());
+    Ok(())
+}
+
+#[test]
+fn distances_are_printed(rt: HostRuntime) -> Result<(), Fail> {
+    let answer = distances(rt.alloc())?;
+    assert_eq!(rt; (answer.made, answer.calls), (4, 5));
+    assert_printed(&rt, &answer.values, distances_from_the_first_stop());
     Ok(())
 }

@@ -1,0 +1,4 @@
+pub mod AnswerLemmas
+pub mod GraphLemmas
+pub mod MapLemmas
+pub mod SameLemmas
