@@ -1,17 +1,15 @@
 -- What a call owes where the text is longer than a text may be.
-use Rattle.std.proofs.Common.{◌≡◌, ◌≢◌, ℕ, ◌+◌, ◌<◌, ◌≤◌, Bool, true, false, cond, List, [], ◌∷◌, length, Option, Some, None, refl, sym, ap, ◌∙◌, subst, arith, leb, IfSome}
-use Rattle.std.proofs.lemmas.Bool.{cond-true, cond-false}
+use Rattle.std.proofs.Common.{◌≡◌, ◌≢◌, ℕ, ◌+◌, ◌<◌, false, List, length, Option, Some, None, refl, sym, ap, subst, arith, leb, IfSome}
+use Rattle.std.proofs.lemmas.Bool.{cond-false}
 use Rattle.std.proofs.lemmas.Bool.Decides.{nat_tests}
-use Rattle.std.specs.List.{list_all}
 use Rattle.graphite_base.specs.Causes.{Rose}
 use Rattle.graphite_base.specs.Known.{TookJust}
 use Rattle.graphite_base.proofs.KnownLemmas.{TookJust-length}
-use Rattle.graphite_text.specs.Lines.{lines_of}
-use Rattle.graphite_text.specs.Reading.{Reading, Refused, reading_of, text_limit}
+use Rattle.graphite_text.specs.Reading.{Refused, reading_of, text_limit}
 use Rattle.graphite_top.specs.declared.status.Status.{Status}
-use Rattle.graphite_top.specs.declared.status.Status.TheVariants.{Done, TextRefused, WordsRefused, ReadFault, WriteFault, NoMemory}
-use Rattle.graphite_top.specs.declared.words.Command.{Command}
-use Rattle.graphite_top.specs.Output.{Answer, command_of, command_answer, output_of, text_answer, reading_answer, text_refusal}
+use Rattle.graphite_top.specs.declared.status.Status.TheVariants.{Done, TextRefused, WordsRefused, QueryRefused, ReadFault, WriteFault, NoMemory}
+use Rattle.graphite_top.specs.Words.{PlainQuery, query_of}
+use Rattle.graphite_top.specs.Output.{Answer, query_answer, output_of, text_answer, reading_answer, text_refusal}
 use Rattle.graphite_top.specs.Call.{Answers, Writes, Gives}
 
 too_long_read : (bytes : List ℕ) → text_limit < length bytes → reading_of bytes ≡ Refused 0 16
@@ -20,13 +18,14 @@ too_long_read bytes h =
     let long : leb (length bytes) text_limit ≡ false = grind (arith, nat_tests) in cond-false _ _ _ long
 
 -- a text that is too long is refused as a whole
-pub too_long : (command : Command) (bytes : List ℕ) → text_limit < length bytes → text_answer command bytes ≡ text_refusal 0 16
-too_long command bytes h = ap (reading_answer command) (too_long_read bytes h)
+pub too_long : (query : PlainQuery) (bytes : List ℕ) → text_limit < length bytes → text_answer query bytes ≡ text_refusal 0 16
+too_long query bytes h = ap (reading_answer query) (too_long_read bytes h)
 
 pub Answers-written : (status : Status) (answer : Answer) (old new : Option (List ℕ)) (before now : ℕ) → Writes status answer old new before now → Answers status answer old new
 Answers-written Done answer old new before now w = w
 Answers-written TextRefused answer old new before now w = w
 Answers-written WordsRefused answer old new before now w = w
+Answers-written QueryRefused answer old new before now w = w
 Answers-written ReadFault answer old new before now w = absurd w
 Answers-written WriteFault answer old new before now w = w.0
 Answers-written NoMemory answer old new before now w = w
@@ -35,13 +34,14 @@ pub Gives-written : (status : Status) (answer : Answer) (old new : Option (List 
 Gives-written Done answer old new before now calm memory w = record { ends = w.0; writes = w.1 }
 Gives-written TextRefused answer old new before now calm memory w = record { ends = w.0; writes = w.1 }
 Gives-written WordsRefused answer old new before now calm memory w = record { ends = w.0; writes = w.1 }
+Gives-written QueryRefused answer old new before now calm memory w = record { ends = w.0; writes = w.1 }
 Gives-written ReadFault answer old new before now calm memory w = absurd w
 Gives-written WriteFault answer old new before now calm memory w = absurd (calm w.1)
 Gives-written NoMemory answer old new before now calm memory w = absurd (memory refl)
 
 -- what is said of the refusal of a text is said of the output, where more bytes came than a text may have
-pub for_too_long : (P : Answer → Type 0) (words : List (List ℕ)) (command : Command) (left rest : Option (List ℕ)) → command_of words ≡ Some command → TookJust left rest (text_limit + 1) → P (text_refusal 0 16) → IfSome (output_of words left) P
-for_too_long P words command None rest accepted took h = subst (λ c. IfSome (command_answer c None) P) (sym accepted) tt
-for_too_long P words command (Some bytes) rest accepted took h =
+pub for_too_long : (P : Answer → Type 0) (words : List (List ℕ)) (query : PlainQuery) (left rest : Option (List ℕ)) → query_of words ≡ Some query → TookJust left rest (text_limit + 1) → P (text_refusal 0 16) → IfSome (output_of words left) P
+for_too_long P words query None rest accepted took h = subst (λ q. IfSome (query_answer q None) P) (sym accepted) tt
+for_too_long P words query (Some bytes) rest accepted took h =
     let long : text_limit < length bytes = omega (arith, TookJust-length bytes rest (text_limit + 1) took) in
-    subst (λ c. IfSome (command_answer c (Some bytes)) P) (sym accepted) (subst P (sym (too_long command bytes long)) h)
+    subst (λ q. IfSome (query_answer q (Some bytes)) P) (sym accepted) (subst P (sym (too_long query bytes long)) h)

@@ -1,5 +1,4 @@
 mod WorkedRuns
-pub mod DepartureLemmas
 pub mod CallLemmas
-pub mod DegreeLemmas
+pub mod SnapLemmas
 pub mod ThroughLemmas

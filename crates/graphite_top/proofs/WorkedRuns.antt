@@ -1,12 +1,14 @@
 -- The definitions on worked runs.
-use Rattle.std.proofs.Common.{◌≡◌, refl, ℕ, List, [], ◌∷◌, ◌++◌}
+use Rattle.std.proofs.Common.{◌≡◌, refl, [], ◌∷◌, None}
 use Rattle.std.specs.Prelude.{codes, Some}
 use Rattle.std.specs.Fmt.{digits}
 use Rattle.graphite_part.specs.Runs.{runs_of}
 use Rattle.graphite_text.specs.Reading.{reading_of}
 use Rattle.graphite_text.specs.Canonical.{canonical_text}
+use Rattle.graphite_api.specs.Calls.{is_quiet, supersteps_made, calls_in, calls_made}
 use Rattle.graphite_report.specs.Report.{vertex_lines, intervals_report}
-use Rattle.graphite_top.specs.declared.status.Status.TheVariants.{Done, TextRefused}
+use Rattle.graphite_top.specs.declared.status.Status.TheVariants.{Done, TextRefused, QueryRefused}
+use Rattle.graphite_top.specs.Words.{Degree, Bfs, query_of}
 use Rattle.graphite_top.specs.Output.{output_of}
 
 worked : output_of (codes "degree" ∷ []) (Some (codes "graph 1 10\nv a 0 10\nv b 0 10\nv c 2 8\ne ab a b 0 5\ne bc b c 3 7\nend\n")) ≡
@@ -23,3 +25,46 @@ shown : output_of (codes "show" ∷ []) (Some (codes "# bus\ngraph 1 10\n\nv a 0
     ≡ Some (record { status = Done; text = codes "graph 1 10\nv a 0 10\nv b 0 10\ne ab a b 0 5\npv a load 0 4 7\npv b load 2 6 3\npe ab cost 0 5 3\nend\n" })
 unfolding reading_of canonical_text digits
 shown = refl
+
+-- two vertices, and an edge between them at the first of two instants
+searched : output_of (codes "bfs" ∷ codes "--source" ∷ codes "a" ∷ []) (Some (codes "graph 1 2\nv a 0 2\nv b 0 2\ne ab a b 0 1\nend\n"))
+    ≡ Some (record { status = Done; text = codes "graphite bfs steps 3 calls 3\na 0 2 0\nb 0 1 1\nb 1 2 none\nend\n" })
+unfolding reading_of runs_of vertex_lines intervals_report digits is_quiet supersteps_made calls_in calls_made
+searched = refl
+
+no_such_vertex : output_of (codes "bfs" ∷ codes "--source" ∷ codes "z" ∷ []) (Some (codes "graph 1 1\nv a 0 1\nend\n"))
+    ≡ Some (record { status = QueryRefused; text = codes "refused query 1\n" })
+unfolding reading_of
+no_such_vertex = refl
+
+-- the words alone
+plain_degree : query_of (codes "degree" ∷ []) ≡ Some Degree
+plain_degree = refl
+
+any_order : query_of (codes "bfs" ∷ codes "--steps" ∷ codes "4" ∷ codes "--source" ∷ codes "a" ∷ []) ≡ Some (Bfs (codes "a") (Some 4))
+any_order = refl
+
+-- a value is taken as it is
+value_like_an_option : query_of (codes "bfs" ∷ codes "--source" ∷ codes "--steps" ∷ []) ≡ Some (Bfs (codes "--steps") None)
+value_like_an_option = refl
+
+no_source : query_of (codes "bfs" ∷ codes "--steps" ∷ codes "4" ∷ []) ≡ None
+no_source = refl
+
+no_value : query_of (codes "bfs" ∷ codes "--source" ∷ []) ≡ None
+no_value = refl
+
+given_twice : query_of (codes "bfs" ∷ codes "--source" ∷ codes "a" ∷ codes "--source" ∷ codes "b" ∷ []) ≡ None
+given_twice = refl
+
+no_steps : query_of (codes "bfs" ∷ codes "--source" ∷ codes "a" ∷ codes "--steps" ∷ codes "0" ∷ []) ≡ None
+no_steps = refl
+
+too_many_steps : query_of (codes "bfs" ∷ codes "--source" ∷ codes "a" ∷ codes "--steps" ∷ codes "2097153" ∷ []) ≡ None
+too_many_steps = refl
+
+no_option_of_degree : query_of (codes "degree" ∷ codes "--source" ∷ codes "a" ∷ []) ≡ None
+no_option_of_degree = refl
+
+no_program_first : query_of (codes "--source" ∷ codes "a" ∷ codes "bfs" ∷ []) ≡ None
+no_program_first = refl

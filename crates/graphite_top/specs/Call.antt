@@ -5,7 +5,7 @@ use Rattle.graphite_base.specs.Causes.{Rose}
 use Rattle.graphite_base.specs.Known.{IsEmptied}
 use Rattle.graphite_text.specs.Reading.{text_limit}
 use Rattle.graphite_top.specs.declared.status.Status.{Status}
-use Rattle.graphite_top.specs.declared.status.Status.TheVariants.{Done, TextRefused, WordsRefused, ReadFault, WriteFault, NoMemory}
+use Rattle.graphite_top.specs.declared.status.Status.TheVariants.{Done, TextRefused, WordsRefused, QueryRefused, ReadFault, WriteFault, NoMemory}
 use Rattle.graphite_top.specs.Output.{Answer}
 
 -- told bytes grew by a front of these
@@ -18,6 +18,7 @@ abbrev pub Answers : Status → Answer → (old new : Option (List ℕ)) → Typ
 Answers Done answer old new = (Done ≡ answer.status) × Appends old new answer.text
 Answers TextRefused answer old new = (TextRefused ≡ answer.status) × Appends old new answer.text
 Answers WordsRefused answer old new = (WordsRefused ≡ answer.status) × Appends old new answer.text
+Answers QueryRefused answer old new = (QueryRefused ≡ answer.status) × Appends old new answer.text
 Answers ReadFault answer old new = Keeps old new
 Answers WriteFault answer old new = AppendsFront old new answer.text
 Answers NoMemory answer old new = AppendsFront old new answer.text
@@ -27,6 +28,7 @@ abbrev pub Writes : Status → Answer → (old new : Option (List ℕ)) → (bef
 Writes Done answer old new before now = (Done ≡ answer.status) × Appends old new answer.text
 Writes TextRefused answer old new before now = (TextRefused ≡ answer.status) × Appends old new answer.text
 Writes WordsRefused answer old new before now = (WordsRefused ≡ answer.status) × Appends old new answer.text
+Writes QueryRefused answer old new before now = (QueryRefused ≡ answer.status) × Appends old new answer.text
 Writes ReadFault answer old new before now = ⊥
 Writes WriteFault answer old new before now = AppendsFront old new answer.text × Rose before now
 Writes NoMemory answer old new before now = AppendsFront old new answer.text
@@ -41,11 +43,13 @@ abbrev pub IsWritten : Status → Type 0
 IsWritten Done = ⊤
 IsWritten TextRefused = ⊤
 IsWritten WordsRefused = ⊤
+IsWritten QueryRefused = ⊤
 IsWritten _ = ⊥
 
 -- the source was read to its end by a call that ended so, unless its text was refused for its length
 abbrev pub IsReadThrough : Status → (old new : Option (List ℕ)) → Type 0
 IsReadThrough Done old new = IsEmptied old new
+IsReadThrough QueryRefused old new = IsEmptied old new
 IsReadThrough TextRefused None new = ⊤
 IsReadThrough TextRefused (Some bytes) new = length bytes ≤ text_limit → new ≡ Some []
 IsReadThrough _ old new = ⊤

@@ -1,7 +1,8 @@
 pub mod Status
+pub mod Words
+pub mod Query
 pub mod Output
 pub mod Call
-pub mod Departure
 pub mod Through
-pub mod Degree
+pub mod Lines
 pub mod Report

@@ -1,45 +1,45 @@
 -- What a call of the program writes, by cases on the words and the text.
-use Rattle.std.specs.Prelude.{ℕ, List, [], ◌∷◌, ◌++◌, codes, decimal, Option, Some, None, option_map, if◌then◌else◌}
-use Rattle.std.specs.Str.{bytes_eq}
+use Rattle.std.specs.Prelude.{ℕ, ◌+◌, List, ◌++◌, codes, decimal, Option, Some, None, option_map, unwrap_or}
 use Rattle.graphite_text.specs.Canonical.{canonical_text}
-use Rattle.graphite_text.specs.Graph.{PlainGraph, vertex_is_alive, out_degree}
+use Rattle.graphite_text.specs.Graph.{PlainGraph, vertex_number}
 use Rattle.graphite_text.specs.Reading.{Reading, Accepted, Refused, reading_of}
+use Rattle.graphite_graph.specs.Ends.{lifespan_count}
 use Rattle.graphite_report.specs.Report.{Heading, intervals_report}
+use Rattle.graphite_snap.specs.declared.query.SnapQuery.{SnapQuery}
+use Rattle.graphite_snap.specs.declared.query.SnapQuery.TheVariants as snap
+use Rattle.graphite_snap.specs.Answers.{printed_at, made_of, calls_of}
 use Rattle.graphite_top.specs.declared.status.Status.{Status}
-use Rattle.graphite_top.specs.declared.status.Status.TheVariants.{Done, TextRefused, WordsRefused}
-use Rattle.graphite_top.specs.declared.words.Command.{Command}
-use Rattle.graphite_top.specs.declared.words.Command.TheVariants.{Degree, Show}
+use Rattle.graphite_top.specs.declared.status.Status.TheVariants.{Done, TextRefused, WordsRefused, QueryRefused}
+use Rattle.graphite_top.specs.Words.{PlainQuery, Degree, Show, Bfs, query_of}
 
 -- A status and the text that is written with it.
 pub record Answer : Type 0 where
   pub status : Status
   pub text : List ℕ
 
--- the program that a word names
-abbrev pub command_named : List ℕ → Option Command
-command_named word =
-    if bytes_eq word (codes "degree") then Some Degree else (if bytes_eq word (codes "show") then Some Show else None)
+-- the word that names a program of snapshots
+abbrev pub program_name : SnapQuery → List ℕ
+program_name snap.Degree = codes "degree"
+program_name (snap.Bfs source) = codes "bfs"
 
--- the program that the words ask for; none where they are refused
-abbrev pub command_of : List (List ℕ) → Option Command
-command_of (word ∷ []) = command_named word
-command_of _ = None
+-- the first line's content, from the supersteps made and the calls
+abbrev pub snap_heading : SnapQuery → (made calls : ℕ) → Heading
+snap_heading query made calls = record { program = program_name query; steps = made; calls = Some calls }
 
--- the out-degree of a vertex at each instant at which it is alive
-abbrev pub degree_at : PlainGraph → ℕ → ℕ → Option (Option ℕ)
-degree_at graph v t = if vertex_is_alive graph v t then Some (Some (out_degree graph v t)) else None
+-- the report of a program of snapshots that is allowed so many supersteps
+abbrev pub snap_report : PlainGraph → SnapQuery → ℕ → List ℕ
+snap_report graph query steps =
+    intervals_report (snap_heading query (made_of graph query steps) (calls_of graph query steps)) graph (printed_at graph query steps)
 
-abbrev pub degree_heading : Heading
-degree_heading = record { program = codes "degree"; steps = 0; calls = Some 0 }
+-- how many supersteps are allowed where the words do not say it: one more than the vertices have lifespans
+abbrev pub usual_steps : PlainGraph → ℕ
+usual_steps graph = lifespan_count graph + 1
 
-abbrev pub degree_report : PlainGraph → List ℕ
-degree_report graph = intervals_report degree_heading graph (degree_at graph)
+-- a report, or the text of a graph
+abbrev pub report_answer : List ℕ → Answer
+report_answer text = record { status = Done; text = text }
 
--- what a program writes for a graph
-abbrev pub report_of : Command → PlainGraph → List ℕ
-report_of Degree graph = degree_report graph
-report_of Show graph = canonical_text graph
-
+-- the refusal of the words
 abbrev pub words_refusal : Answer
 words_refusal = record { status = WordsRefused; text = codes "refused words\n" }
 
@@ -50,19 +50,36 @@ text_refusal line rule = record {
   text = codes "refused text line " ++ decimal line ++ codes " rule " ++ decimal rule ++ codes "\n";
 }
 
-abbrev pub reading_answer : Command → Reading → Answer
-reading_answer command (Accepted graph) = record { status = Done; text = report_of command graph }
-reading_answer command (Refused line rule) = text_refusal line rule
+-- the refusal of a query whose source names no vertex of the graph
+abbrev pub query_refusal : Answer
+query_refusal = record { status = QueryRefused; text = codes "refused query 1\n" }
+
+-- the answer of a search from the vertex that was named, where there is one
+abbrev pub bfs_answer : PlainGraph → ℕ → Option ℕ → Answer
+bfs_answer graph steps None = query_refusal
+bfs_answer graph steps (Some source) = report_answer (snap_report graph (snap.Bfs source) steps)
+
+-- the answer of a program for a graph; degree makes no superstep, however many are allowed
+abbrev pub graph_answer : PlainQuery → PlainGraph → Answer
+graph_answer Degree graph = report_answer (snap_report graph snap.Degree (usual_steps graph))
+graph_answer Show graph = report_answer (canonical_text graph)
+graph_answer (Bfs source steps) graph =
+    bfs_answer graph (unwrap_or steps (usual_steps graph)) (vertex_number graph source)
+
+-- the answer to what the reading of a text gives
+abbrev pub reading_answer : PlainQuery → Reading → Answer
+reading_answer query (Accepted graph) = graph_answer query graph
+reading_answer query (Refused line rule) = text_refusal line rule
 
 -- the answer to a text
-abbrev pub text_answer : Command → List ℕ → Answer
-text_answer command bytes = reading_answer command (reading_of bytes)
+abbrev pub text_answer : PlainQuery → List ℕ → Answer
+text_answer query bytes = reading_answer query (reading_of bytes)
 
--- the answer to the bytes of the source, where it tells them, and to words that name a program or none
-abbrev pub command_answer : Option Command → Option (List ℕ) → Option Answer
-command_answer None left = Some words_refusal
-command_answer (Some command) left = option_map (text_answer command) left
+-- the answer to the bytes of the source, where it tells them, and to words that ask for a program or for none
+abbrev pub query_answer : Option PlainQuery → Option (List ℕ) → Option Answer
+query_answer None left = Some words_refusal
+query_answer (Some query) left = option_map (text_answer query) left
 
 -- the answer to the words and the bytes of the source, where it tells them
 abbrev pub output_of : List (List ℕ) → Option (List ℕ) → Option Answer
-output_of words left = command_answer (command_of words) left
+output_of words left = query_answer (query_of words) left

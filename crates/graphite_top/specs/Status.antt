@@ -1,12 +1,13 @@
 use Rattle.std.specs.Prelude.{ℕ}
 use Rattle.graphite_top.specs.declared.status.Status.{Status}
-use Rattle.graphite_top.specs.declared.status.Status.TheVariants.{Done, TextRefused, WordsRefused, ReadFault, WriteFault, NoMemory}
+use Rattle.graphite_top.specs.declared.status.Status.TheVariants.{Done, TextRefused, WordsRefused, QueryRefused, ReadFault, WriteFault, NoMemory}
 
 -- the exit status of the program
 abbrev pub code_of : Status → ℕ
 code_of Done = 0
 code_of TextRefused = 1
 code_of WordsRefused = 2
+code_of QueryRefused = 3
 code_of ReadFault = 5
 code_of WriteFault = 6
 code_of NoMemory = 7

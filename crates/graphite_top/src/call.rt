@@ -3,15 +3,20 @@ ghost use Rattle.std.specs.Io.KnownBytes.{Keeps};
 ghost use Rattle.graphite_base.specs.Causes.{Rose};
 ghost use Rattle.graphite_base.specs.Known.{IsEmptied};
 ghost use Rattle.graphite_text.specs.Canonical.{canonical_text};
+ghost use Rattle.graphite_text.specs.Graph.{vertex_number};
 ghost use Rattle.graphite_text.specs.Reading.{text_limit};
-ghost use Rattle.graphite_top.specs.Output.{command_of, output_of, text_answer, report_of, words_refusal, text_refusal};
+ghost use Rattle.graphite_top.specs.Output.{bfs_answer, graph_answer, output_of, query_refusal, report_answer, text_answer, text_refusal, usual_steps, words_refusal};
+ghost use Rattle.graphite_top.specs.Query.{number_given, plain_query};
+ghost use Rattle.graphite_top.specs.Words.{NamesSource, query_of};
 ghost use Rattle.graphite_top.specs.Call.{Answers, Writes, Gives, IsWritten, IsReadThrough};
 
 use crate::Status;
-use crate::degree::write_degree;
-use crate::words::{Command, command_of};
+use crate::snap::write_snap;
+use crate::steps::Steps;
+use crate::words::{Query, query_of};
 use graphite_base::{ReadText, Sink, Source, push_number, read_text, write_all};
 use graphite_graph::{Graph, LoadFault, load};
+use graphite_snap::SnapQuery;
 use graphite_time::NoMemory;
 use std::alloc::Global;
 
@@ -43,23 +48,24 @@ pub fn run<S: Source, K: Sink>(
 
     // When each fault comes.
     ensures read_fault { result ≡ Status.ReadFault
-        → IsSome (command_of (map string_bytes words.now)) × Rose (S.faults source.old) (S.faults source.new) }
+        → IsSome (query_of (map string_bytes words.now)) × Rose (S.faults source.old) (S.faults source.new) }
     ensures nothing_written { result ≡ Status.ReadFault → Keeps (K.written sink.old) (K.written sink.new) }
     ensures write_fault { result ≡ Status.WriteFault → Rose (K.faults sink.old) (K.faults sink.new) }
-    ensures words_refused { result ≡ Status.WordsRefused → command_of (map string_bytes words.now) ≡ None }
+    ensures words_refused { result ≡ Status.WordsRefused → query_of (map string_bytes words.now) ≡ None }
+    ensures query_refused { result ≡ Status.QueryRefused → NamesSource (query_of (map string_bytes words.now)) }
 
     // What becomes of the source.
-    ensures untouched { command_of (map string_bytes words.now) ≡ None → source.new ≡ source.old }
+    ensures untouched { query_of (map string_bytes words.now) ≡ None → source.new ≡ source.old }
     ensures emptied { IsReadThrough result (S.left source.old) (S.left source.new) }
 
     // No count of faults falls.
     ensures later { (S.faults source.old ≤ S.faults source.new) × (K.faults sink.old ≤ K.faults sink.new) }
 {
-    let Some(command) = command_of(words) else {
+    let Some(query) = query_of(words) else {
         return write(sink, b"refused words\n", Status::WordsRefused);
     };
     match read_text(alloc, source, TEXT_LIMIT) {
-        Ok(text) => answer_text(alloc, command, &text, sink),
+        Ok(text) => answer_text(alloc, query, &text, sink),
         Err(ReadText::TooLong) => refuse_text(alloc, 0, LENGTH_RULE, sink),
         Err(ReadText::Failed) => Status::ReadFault,
         Err(ReadText::NoMemory) => Status::NoMemory,
@@ -67,31 +73,63 @@ pub fn run<S: Source, K: Sink>(
 }
 
 /// Writes the answer to a text.
-fn answer_text<K: Sink>(alloc: Global, command: Command, text: &[u8], sink: &mut K) -> Status
-    ensures writes { Writes result (text_answer command text.now) (K.written sink.old) (K.written sink.new) (K.faults sink.old) (K.faults sink.new) }
+fn answer_text<K: Sink>(alloc: Global, query: Query<'_>, text: &[u8], sink: &mut K) -> Status
+    ensures writes { Writes result (text_answer (plain_query query.entry) text.now) (K.written sink.old) (K.written sink.new) (K.faults sink.old) (K.faults sink.new) }
+    ensures query_refused { result ≡ Status.QueryRefused → NamesSource (Some (plain_query query.entry)) }
     ensures later { K.faults sink.old ≤ K.faults sink.new }
 {
     match load(alloc, text) {
-        Ok(graph) => report(alloc, command, &graph, sink),
+        Ok(graph) => report(alloc, query, &graph, sink),
         Err(LoadFault::Rule { line, rule }) => refuse_text(alloc, line, rule, sink),
         Err(LoadFault::NoMemory) => Status::NoMemory,
     }
 }
 
-/// Writes what the program writes for a graph.
-fn report<K: Sink>(alloc: Global, command: Command, graph: &Graph<'_>, sink: &mut K) -> Status
-    ensures writes { Writes result (record { status = Status.Done; text = report_of command graph.now }) (K.written sink.old) (K.written sink.new) (K.faults sink.old) (K.faults sink.new) }
+/// Writes the answer of a program for a graph.
+fn report<K: Sink>(alloc: Global, query: Query<'_>, graph: &Graph<'_>, sink: &mut K) -> Status
+    ensures writes { Writes result (graph_answer (plain_query query.entry) graph.now) (K.written sink.old) (K.written sink.new) (K.faults sink.old) (K.faults sink.new) }
+    ensures query_refused { result ≡ Status.QueryRefused → NamesSource (Some (plain_query query.entry)) }
     ensures later { K.faults sink.old ≤ K.faults sink.new }
 {
-    match command {
-        Command::Degree => write_degree(alloc, graph, sink),
-        Command::Show => write_shown(alloc, graph, sink),
+    match query {
+        Query::Degree => write_snap(alloc, graph, &SnapQuery::Degree, usual_steps(graph), sink),
+        Query::Show => write_shown(alloc, graph, sink),
+        Query::Bfs { source, steps } => {
+            let steps = steps.unwrap_or(usual_steps(graph));
+            search(alloc, graph, source, steps, sink)
+        }
+    }
+}
+
+/// How many supersteps are allowed where the words do not say it: one more than the vertices have
+/// lifespans.
+fn usual_steps(graph: &Graph<'_>) -> Steps
+    ensures { result.number ≡ usual_steps graph.now }
+{
+    Steps::new(graph.lifespans() + 1)
+}
+
+/// Writes the report of a search from the vertex with a name, or the refusal of a name that no vertex
+/// has.
+fn search<K: Sink>(
+    alloc: Global,
+    graph: &Graph<'_>,
+    source: &[u8],
+    steps: Steps,
+    sink: &mut K,
+) -> Status
+    ensures writes { Writes result (bfs_answer graph.now steps.number (vertex_number graph.now source.now)) (K.written sink.old) (K.written sink.new) (K.faults sink.old) (K.faults sink.new) }
+    ensures later { K.faults sink.old ≤ K.faults sink.new }
+{
+    match graph.find_vertex(source) {
+        Some(source) => write_snap(alloc, graph, &SnapQuery::Bfs(source), steps, sink),
+        None => write(sink, b"refused query 1\n", Status::QueryRefused),
     }
 }
 
 /// Writes the canonical text of a graph.
 fn write_shown<K: Sink>(alloc: Global, graph: &Graph<'_>, sink: &mut K) -> Status
-    ensures writes { Writes result (record { status = Status.Done; text = canonical_text graph.now }) (K.written sink.old) (K.written sink.new) (K.faults sink.old) (K.faults sink.new) }
+    ensures writes { Writes result (report_answer (canonical_text graph.now)) (K.written sink.old) (K.written sink.new) (K.faults sink.old) (K.faults sink.new) }
     ensures later { K.faults sink.old ≤ K.faults sink.new }
 {
     let mut text = Vec::new(alloc);

@@ -2,10 +2,10 @@
 #![tactic(auto)]
 
 mod call;
-mod degree;
-mod departure;
 mod report;
+mod snap;
 mod status;
+mod steps;
 mod words;
 
 pub use call::run;

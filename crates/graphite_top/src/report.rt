@@ -1,9 +1,9 @@
-ghost use Rattle.std.specs.Prelude.{◌≡◌, ◌++◌, ◌≤◌, [], map, flat_map, OnOk, OnErr, Some};
+ghost use Rattle.std.specs.Prelude.{◌≡◌, ◌++◌, ◌≤◌, [], map, flat_map, OnOk, OnErr};
 ghost use Rattle.std.specs.Io.KnownBytes.{Appends};
 ghost use Rattle.graphite_base.specs.Causes.{Rose};
 ghost use Rattle.graphite_base.specs.Known.{AppendsPart};
-ghost use Rattle.graphite_part.specs.Pieces.{run_with};
-ghost use Rattle.graphite_report.specs.Report.{run_line};
+ghost use Rattle.graphite_part.specs.Pieces.{run_of};
+ghost use Rattle.graphite_report.specs.Report.{run_line, value_text};
 ghost use Rattle.graphite_top.specs.Report.{IsMemory, IsWrite, Sends};
 
 use graphite_base::{Sink, WriteFailed, push_number, write_all};
@@ -47,9 +47,20 @@ impl From<WriteFailed> for ReportFault {
 /// How many bytes are gathered before they are sent, so that a write is large.
 pub const PIECE: usize = 65_536;
 
+/// Appends a value as it is printed.
+fn push_value(into: &mut Vec<u8>, value: Option<u64>) -> Result<(), NoMemory>
+    ensures { OnOk result (into.new.items ≡ into.old.items ++ value_text value) }
+{
+    match value {
+        Some(number) => push_number(into, u128::from(number))?,
+        None => into.extend_from_slice(b"none")?,
+    }
+    Ok(())
+}
+
 /// Appends the line that says that a vertex has a value throughout a piece.
-fn push_line(into: &mut Vec<u8>, name: &[u8], piece: Piece<u32>) -> Result<(), NoMemory>
-    ensures { OnOk result (into.new.items ≡ into.old.items ++ run_line name.now (run_with Some piece)) }
+fn push_line(into: &mut Vec<u8>, name: &[u8], piece: Piece<Option<u64>>) -> Result<(), NoMemory>
+    ensures { OnOk result (into.new.items ≡ into.old.items ++ run_line name.now (run_of piece)) }
 {
     into.extend_from_slice(name)?;
     into.extend_from_slice(b" ")?;
@@ -57,15 +68,19 @@ fn push_line(into: &mut Vec<u8>, name: &[u8], piece: Piece<u32>) -> Result<(), N
     into.extend_from_slice(b" ")?;
     push_number(into, u128::from(piece.over.b()))?;
     into.extend_from_slice(b" ")?;
-    push_number(into, u128::from(piece.value))?;
+    push_value(into, piece.value)?;
     into.extend_from_slice(b"\n")?;
     Ok(())
 }
 
 /// Appends the lines of a vertex that has these values.
-pub fn push_lines(into: &mut Vec<u8>, name: &[u8], pieces: &[Piece<u32>]) -> Result<(), NoMemory>
+pub fn push_lines(
+    into: &mut Vec<u8>,
+    name: &[u8],
+    pieces: &[Piece<Option<u64>>],
+) -> Result<(), NoMemory>
     ensures { OnOk result (into.new.items
-        ≡ into.old.items ++ flat_map (run_line name.now) (map (run_with Some) pieces.now)) }
+        ≡ into.old.items ++ flat_map (run_line name.now) (map run_of pieces.now)) }
 {
     for piece in pieces {
         push_line(into, name, *piece)?;

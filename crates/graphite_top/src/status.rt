@@ -9,6 +9,8 @@ pub enum Status {
     TextRefused,
     /// The words are no command; a refusal was written, and the source was not touched.
     WordsRefused,
+    /// The text was accepted, and its graph has not the vertex that the words name; a refusal was written.
+    QueryRefused,
     /// A read failed; nothing was written.
     ReadFault,
     /// A write failed; a front of what would have come was written.
@@ -28,6 +30,7 @@ impl Status {
             Status::Done => 0,
             Status::TextRefused => 1,
             Status::WordsRefused => 2,
+            Status::QueryRefused => 3,
             Status::ReadFault => 5,
             Status::WriteFault => 6,
             Status::NoMemory => 7,

@@ -10,6 +10,8 @@ const STOPS: &[u8] = b"graph 1 10\nv a 0 10\nv b 0 10\nv c 2 8\ne ab a b 0 5\ne 
 const STOPS_REPORT: &[u8] =
     b"graphite degree steps 0 calls 0\na 0 5 1\na 5 10 0\nb 0 3 0\nb 3 7 1\nb 7 10 0\nc 2 8 0\nend\n";
 
+const NO_SUCH_VERTEX: &[u8] = b"refused query 1\n";
+
 fn words_of(alloc: Global, words: &[&str]) -> Result<Vec<String>, AllocError> {
     let mut all = Vec::new(alloc);
     for word in words {
@@ -18,16 +20,16 @@ fn words_of(alloc: Global, words: &[&str]) -> Result<Vec<String>, AllocError> {
     Ok(all)
 }
 
-/// Runs one word on a text, and compares what it writes.
+/// Runs words on a text, and compares what it writes.
 fn expect_run(
     rt: &impl Abort,
     alloc: Global,
-    word: &str,
+    words: &[&str],
     text: &[u8],
     status: Status,
     written: &[u8],
 ) -> Result<(), Fail> {
-    let words = words_of(alloc, &[word])?;
+    let words = words_of(alloc, words)?;
     let mut source = SliceSource::new(text);
     let mut sink = VecSink::new(alloc, 4096)?;
     assert_eq!(rt; run(alloc, &words, &mut source, &mut sink), status);
@@ -57,7 +59,64 @@ fn worked_runs(rt: HostRuntime) -> Result<(), Fail> {
         ),
     ];
     for (word, text, written) in cases {
-        expect_run(&rt, rt.alloc(), word, text, Status::Done, written)?;
+        expect_run(&rt, rt.alloc(), &[word], text, Status::Done, written)?;
+    }
+    Ok(())
+}
+
+/// Breadth-first search, and what of it the words change.
+#[test]
+fn searches(rt: HostRuntime) -> Result<(), Fail> {
+    let cases: [(&[&str], Status, &[u8]); 5] = [
+        (
+            &["bfs", "--source", "a"],
+            Status::Done,
+            b"graphite bfs steps 4 calls 5\na 0 10 0\nb 0 5 1\nb 5 10 none\nc 2 3 none\nc 3 5 2\nc 5 8 none\nend\n",
+        ),
+        (
+            &["bfs", "--steps", "1", "--source", "a"],
+            Status::Done,
+            b"graphite bfs steps 1 calls 3\na 0 10 0\nb 0 10 none\nc 2 8 none\nend\n",
+        ),
+        (
+            &["bfs", "--source", "z"],
+            Status::QueryRefused,
+            NO_SUCH_VERTEX,
+        ),
+        // a value is taken as it is, also where it looks like an option or is empty
+        (
+            &["bfs", "--source", "--steps"],
+            Status::QueryRefused,
+            NO_SUCH_VERTEX,
+        ),
+        (
+            &["bfs", "--source", ""],
+            Status::QueryRefused,
+            NO_SUCH_VERTEX,
+        ),
+    ];
+    for (words, status, written) in cases {
+        expect_run(&rt, rt.alloc(), words, STOPS, status, written)?;
+    }
+    Ok(())
+}
+
+/// Two edges that touch are one interval with one note, and two that overlap a group of two notes between groups of one.
+#[test]
+fn searches_along_two_edges(rt: HostRuntime) -> Result<(), Fail> {
+    let cases: [(&[u8], &[u8]); 2] = [
+        (
+            b"graph 1 6\nv a 0 6\nv b 0 6\ne x a b 0 3\ne y a b 3 6\nend\n",
+            b"graphite bfs steps 3 calls 3\na 0 6 0\nb 0 6 1\nend\n",
+        ),
+        (
+            b"graph 1 6\nv a 0 6\nv b 0 6\ne x a b 0 4\ne y a b 2 6\nend\n",
+            b"graphite bfs steps 3 calls 5\na 0 6 0\nb 0 6 1\nend\n",
+        ),
+    ];
+    for (text, written) in cases {
+        let words = ["bfs", "--source", "a"];
+        expect_run(&rt, rt.alloc(), &words, text, Status::Done, written)?;
     }
     Ok(())
 }
@@ -91,7 +150,7 @@ fn texts_that_are_refused(rt: HostRuntime) -> Result<(), Fail> {
         expect_run(
             &rt,
             rt.alloc(),
-            "degree",
+            &["degree"],
             text,
             Status::TextRefused,
             written,
@@ -128,7 +187,7 @@ fn lines_at_their_limits(rt: HostRuntime) -> Result<(), Fail> {
     ];
     for (line, status, written) in cases {
         let text = with_line(alloc, line)?;
-        expect_run(&rt, alloc, "degree", &text, status, written)?;
+        expect_run(&rt, alloc, &["degree"], &text, status, written)?;
     }
     Ok(())
 }
@@ -136,21 +195,41 @@ fn lines_at_their_limits(rt: HostRuntime) -> Result<(), Fail> {
 /// Three instants, far apart, in a life that ends at the last instant of all.
 #[test]
 fn instants_near_the_last(rt: HostRuntime) -> Result<(), Fail> {
-    let text =
+    let text: &[u8] =
         b"graph 1 17592186044416\nv central 0 17592186044416\nv museum 0 17592186044416\nv harbour 0 17592186044416\ne t1 central museum 1700000000000 1700000000001\ne t2 museum harbour 1700000420000 1700000420001\ne t3 museum harbour 1700000240000 1700000240001\npe t1 time 1700000000000 1700000000001 300000\npe t2 time 1700000420000 1700000420001 600000\npe t3 time 1700000240000 1700000240001 240000\nend\n";
-    let written =
+    let degrees: &[u8] =
         b"graphite degree steps 0 calls 0\ncentral 0 1700000000000 0\ncentral 1700000000000 1700000000001 1\ncentral 1700000000001 17592186044416 0\nmuseum 0 1700000240000 0\nmuseum 1700000240000 1700000240001 1\nmuseum 1700000240001 1700000420000 0\nmuseum 1700000420000 1700000420001 1\nmuseum 1700000420001 17592186044416 0\nharbour 0 17592186044416 0\nend\n";
-    expect_run(&rt, rt.alloc(), "degree", text, Status::Done, written)
+    let numbers: &[u8] =
+        b"graphite bfs steps 3 calls 4\ncentral 0 17592186044416 0\nmuseum 0 1700000000000 none\nmuseum 1700000000000 1700000000001 1\nmuseum 1700000000001 17592186044416 none\nharbour 0 17592186044416 none\nend\n";
+    let cases: [(&[&str], &[u8]); 2] = [
+        (&["degree"], degrees),
+        (&["bfs", "--source", "central"], numbers),
+    ];
+    for (words, written) in cases {
+        expect_run(&rt, rt.alloc(), words, text, Status::Done, written)?;
+    }
+    Ok(())
 }
 
 #[test]
 fn words_that_are_refused(rt: HostRuntime) -> Result<(), Fail> {
     let alloc = rt.alloc();
-    let lists: [&[&str]; 4] = [
+    let lists: [&[&str]; 15] = [
         &[],
         &["frob"],
         &["degree", "extra"],
         &["degree", "--steps", "3"],
+        &["degree", "--source", "a"],
+        &["bfs"],
+        &["bfs", "--source"],
+        &["bfs", "--steps", "4"],
+        &["bfs", "--source=a"],
+        &["bfs", "--source", "a", "--source", "b"],
+        &["bfs", "--source", "a", "--target", "b"],
+        &["bfs", "--source", "a", "--steps", "0"],
+        &["bfs", "--source", "a", "--steps", "01"],
+        &["bfs", "--source", "a", "--steps", "2097153"],
+        &["--source", "a", "bfs"],
     ];
     for list in lists {
         let words = words_of(alloc, list)?;
@@ -194,6 +273,7 @@ fn exit_statuses(rt: HostRuntime) {
         (Status::Done, 0),
         (Status::TextRefused, 1),
         (Status::WordsRefused, 2),
+        (Status::QueryRefused, 3),
         (Status::ReadFault, 5),
         (Status::WriteFault, 6),
         (Status::NoMemory, 7),
