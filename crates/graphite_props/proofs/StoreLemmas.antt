@@ -2,7 +2,7 @@
 use Rattle.std.proofs.Common.{◌≡◌, refl, sym, ap, subst, ◌∙◌, ℕ, suc, ◌<◌, arith, Bool, true, false, cond, List, [], ◌∷◌, ◌++◌, length, length-append, get_or, map, All, Option, Some, None, is_some, position, unwrap_or, OnErr, Result, Ok, Err, is_ok, IfOk, IfSome, Bor, if◌then◌else◌}
 use Rattle.std.specs.Str.{bytes_eq}
 use Rattle.std.specs.List.{list_any, position_or_len}
-use Rattle.std.specs.Option.{option_copied, option_and_then}
+use Rattle.std.specs.Option.{option_copied}
 use Rattle.std.proofs.Math.Path.{fun_ext}
 use Rattle.indexmap.specs.IndexSet.{insert_key}
 use Rattle.std.proofs.lemmas.Bool.{cond-true, cond-false}
@@ -17,7 +17,10 @@ use Rattle.indexmap.specs.IndexMap.{IndexMap, get, Updates}
 use Rattle.graphite_props.specs.declared.row.PropRow.{PropRow}
 use Rattle.graphite_props.specs.Properties.{with_key, property}
 use Rattle.graphite_props.specs.Rows.{property_of, properties_of}
-use Rattle.graphite_props.specs.Store.{Place, place_eq, timelines_of, timeline_value, timeline_of, IsTimeline, AreTimelines, AreKept, IsPainted}
+use Rattle.graphite_props.specs.Store.{Place, place_eq, timelines_of, timeline_value, AreTimelines, IsPainted}
+use Rattle.graphite_props.specs.declared.places.Places.{Places}
+use Rattle.graphite_props.specs.Turn.{place_of}
+use Rattle.graphite_props.specs.Places.{timelines_in, AreTimelinesOf, AreKept}
 use Rattle.graphite_props.proofs.ListLemmas.{position_or_len-found, position_or_len-none, list_any-false, list_any-map}
 use Rattle.graphite_props.proofs.TimelineLemmas.{with_key-length, with_key-stays, number-within, number-names, AreTimelines-added, same_place}
 
@@ -43,40 +46,39 @@ All-weaker : {X : Type 0} (P Q : X → Type 0) → ((x : X) → P x → Q x) →
 All-weaker P Q h xs all = λ k d within. h (get_or xs k d) (all k d within)
 
 -- the parts with one more row
-pub AreKept-added : {S : Type 0} (keys new_keys : List (List ℕ)) (key : List ℕ) (rows new_rows : List PropRow) (row : PropRow) (timelines new_timelines : IndexMap Place (List (Piece ℕ)) S)
-    → AreKept keys rows timelines → new_keys ≡ with_key keys key → new_rows ≡ rows ++ row ∷ [] → row.key ≡ position_or_len (bytes_eq key) keys
+pub AreKept-added : (keys new_keys : List (List ℕ)) (key : List ℕ) (rows new_rows : List PropRow) (row : PropRow) (places new_places : Places)
+    → AreKept keys rows places → new_keys ≡ with_key keys key → new_rows ≡ rows ++ row ∷ [] → row.key ≡ position_or_len (bytes_eq key) keys
     → length rows < 4194304 → is_apart (properties_of keys rows) row.owner key (as_span row.over) ≡ true
-    → IsPainted (timelines_of timelines) (timelines_of new_timelines) (row.owner, row.key) row.over row.value
-    → AreKept new_keys new_rows new_timelines
-AreKept-added keys new_keys key rows new_rows row timelines new_timelines parts keyed rowed number room apart painted_over =
-    subst (λ ks. AreKept ks new_rows new_timelines) (sym keyed) (subst (λ rs. AreKept (with_key keys key) rs new_timelines) (sym rowed) record {
+    → AreTimelinesOf (rows ++ row ∷ []) new_places
+    → IsPainted (timelines_in rows places) (timelines_in (rows ++ row ∷ []) new_places) (place_of row) row.over row.value
+    → AreKept new_keys new_rows new_places
+AreKept-added keys new_keys key rows new_rows row places new_places parts keyed rowed number room apart stand painted_over =
+    subst (λ ks. AreKept ks new_rows new_places) (sym keyed) (subst (λ rs. AreKept (with_key keys key) rs new_places) (sym rowed) record {
       in_limit = omega (arith, length-append rows (row ∷ []));
       fewer_keys = omega (arith, parts.fewer_keys, (with_key-length keys key).1, length-append rows (row ∷ []));
       keys_in_range = All-push (λ r. r.key < length (with_key keys key)) rows row
           (All-weaker (λ r. r.key < length keys) (λ r. r.key < length (with_key keys key)) (λ r h. omega (arith, h, (with_key-length keys key).0)) rows parts.keys_in_range)
           (omega (arith, number, number-within keys key));
-      timelines = subst (λ ps. AreTimelines ps (with_key keys key) (timelines_of new_timelines)) (sym (properties_of-push keys key rows row parts.keys_in_range number))
-          (AreTimelines-added keys key (properties_of keys rows) (timelines_of timelines) (timelines_of new_timelines) row.owner row.over row.value parts.timelines apart
-          (subst (λ n. IsPainted (timelines_of timelines) (timelines_of new_timelines) (row.owner, n) row.over row.value) number painted_over));
+      stand = stand;
+      timelines = subst (λ ps. AreTimelines ps (with_key keys key) (timelines_in (rows ++ row ∷ []) new_places)) (sym (properties_of-push keys key rows row parts.keys_in_range number))
+          (AreTimelines-added keys key (properties_of keys rows) (timelines_in rows places) (timelines_in (rows ++ row ∷ []) new_places) row.owner row.over row.value parts.timelines apart
+          (subst (λ n. IsPainted (timelines_in rows places) (timelines_in (rows ++ row ∷ []) new_places) (row.owner, n) row.over row.value) number painted_over));
     })
 
 -- the same timelines belong to the same parts
-pub AreKept-same : {S : Type 0} (keys new_keys : List (List ℕ)) (rows new_rows : List PropRow) (timelines new_timelines : IndexMap Place (List (Piece ℕ)) S)
-    → AreKept keys rows timelines → new_keys ≡ keys → new_rows ≡ rows → ((place : Place) → timelines_of new_timelines place ≡ timelines_of timelines place)
-    → AreKept new_keys new_rows new_timelines
-AreKept-same keys new_keys rows new_rows timelines new_timelines parts keyed rowed same =
-    subst (λ ks. AreKept ks new_rows new_timelines) (sym keyed) (subst (λ rs. AreKept keys rs new_timelines) (sym rowed) record {
-      in_limit = parts.in_limit;
-      fewer_keys = parts.fewer_keys;
-      keys_in_range = parts.keys_in_range;
-      timelines = record {
-        keys_are = parts.timelines.keys_are;
-        numbered = λ owner number past. same (owner, number) ∙ parts.timelines.numbered owner number past;
-        each = λ owner key.
-            let timeline : timeline_of keys (timelines_of timelines) owner key ≡ timeline_of keys (timelines_of new_timelines) owner key = ap (λ f. option_and_then f (position (bytes_eq key) keys)) (fun_ext (λ n. sym (same (owner, n)))) in
-            subst (IsTimeline (properties_of keys rows) owner key) timeline (parts.timelines.each owner key);
-      };
-    })
+pub AreKept-same : (keys new_keys : List (List ℕ)) (rows new_rows : List PropRow) (places new_places : Places)
+    → AreKept keys rows places → new_keys ≡ keys → new_rows ≡ rows → AreTimelinesOf new_rows new_places
+    → ((place : Place) → timelines_in new_rows new_places place ≡ timelines_in new_rows places place)
+    → AreKept new_keys new_rows new_places
+AreKept-same keys new_keys rows new_rows places new_places parts keyed rowed stand same =
+    subst (λ ks. AreKept ks new_rows new_places) (sym keyed) record {
+      in_limit = omega (arith, parts.in_limit, ap length rowed);
+      fewer_keys = omega (arith, parts.fewer_keys, ap length rowed);
+      keys_in_range = subst (All (λ r. r.key < length keys)) (sym rowed) parts.keys_in_range;
+      stand = stand;
+      timelines = subst (AreTimelines (properties_of keys new_rows) keys) (fun_ext (λ place. sym (same place)))
+          (subst (λ rs. AreTimelines (properties_of keys rs) keys (timelines_in rs places)) (sym rowed) parts.timelines);
+    }
 
 -- a first place, or the length
 pub next_place : {X : Type 0} (p : X → Bool) (xs : List X) → unwrap_or (position p xs) (length xs) ≡ position_or_len p xs

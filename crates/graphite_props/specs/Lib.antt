@@ -2,3 +2,5 @@ pub mod Properties
 pub mod Rows
 pub mod Store
 pub mod Hasher
+pub mod Turn
+pub mod Places

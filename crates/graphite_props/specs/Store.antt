@@ -1,5 +1,5 @@
--- How what is kept belongs together.
-use Rattle.std.specs.Prelude.{◌≡◌, ◌<◌, ◌≤◌, ℕ, Bool, true, false, ◌&&◌, nat_eq, List, length, position, Option, Some, None, is_some, All}
+-- Timelines by the places of their owners and keys.
+use Rattle.std.specs.Prelude.{◌≡◌, ◌≤◌, ℕ, Bool, true, false, ◌&&◌, nat_eq, List, length, position, Option, Some, None, is_some}
 use Rattle.std.specs.Str.{bytes_eq}
 use Rattle.std.specs.Option.{option_and_then}
 use Rattle.indexmap.specs.IndexMap.{IndexMap, get}
@@ -7,9 +7,7 @@ use Rattle.graphite_time.specs.declared.interval.Interval.{Interval}
 use Rattle.graphite_text.specs.Graph.{PlainProperty, property_at}
 use Rattle.graphite_part.specs.declared.piece.Piece.{Piece}
 use Rattle.graphite_part.specs.Pieces.{value_at, painted}
-use Rattle.graphite_props.specs.declared.row.PropRow.{PropRow}
 use Rattle.graphite_props.specs.Properties.{has_property, keys_of}
-use Rattle.graphite_props.specs.Rows.{properties_of}
 
 -- an owner with the number of a key
 abbrev pub Place : Type 0
@@ -45,13 +43,6 @@ pub record AreTimelines (properties : List PlainProperty) (keys : List (List ℕ
   pub keys_are : keys ≡ keys_of properties
   pub numbered : (owner number : ℕ) → length keys ≤ number → timelines (owner, number) ≡ None
   pub each : (owner : ℕ) (key : List ℕ) → IsTimeline properties owner key (timeline_of keys timelines owner key)
-
--- what is kept belongs together
-pub record AreKept {S : Type 0} (keys : List (List ℕ)) (rows : List PropRow) (map : IndexMap Place (List (Piece ℕ)) S) : Type 0 where
-  pub in_limit : length rows ≤ 4194304
-  pub fewer_keys : length keys ≤ length rows
-  pub keys_in_range : All (λ row. row.key < length keys) rows
-  pub timelines : AreTimelines (properties_of keys rows) keys (timelines_of map)
 
 -- the timeline of a place is painted over an interval, and there is one, and no other timeline changes
 pub record IsPainted (old new : PlaceTimelines) (place : Place) (over : Interval) (value : ℕ) : Type 0 where

@@ -4,12 +4,14 @@
 #![tactic(auto)]
 
 mod fault;
+mod hashed;
 mod hasher;
 mod keys;
 mod meets;
 mod places;
 mod row;
 mod timelines;
+mod turn;
 
 pub use fault::AddFault;
 pub use row::PropRow;

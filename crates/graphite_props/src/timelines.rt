@@ -9,14 +9,13 @@ ghost use Rattle.graphite_props.specs.declared.fault.AddFault.TheVariants.{Overl
 ghost use Rattle.graphite_props.specs.Properties.{has_property, keys_of, property};
 ghost use Rattle.graphite_props.specs.Rows.{properties_of};
 
-use crate::hasher::PlaceHashers;
 use crate::keys::{add_key, next_number};
 use crate::meets::meets;
-use crate::places::paint_timeline;
+use crate::places::Places;
 use crate::{AddFault, PropRow};
 use graphite_part::Partition;
 use graphite_time::{Interval, NoMemory};
-use indexmap::{IndexMap, IndexSet};
+use indexmap::IndexSet;
 use std::alloc::Global;
 use std::marker::Model;
 
@@ -27,20 +26,20 @@ pub struct Timelines<'a> {
     keys: IndexSet<&'a [u8]>,
     rows: Vec<PropRow>,
     /// The values by instant, for each owner and number of a key that have some.
-    timelines: IndexMap<(u32, u32), Partition<u32>, PlaceHashers>,
+    places: Places,
 }
 
 impl<'a> Model for Timelines<'a> {
     ghost use Rattle.std.specs.Prelude.{List, map};
     ghost use Rattle.graphite_text.specs.Graph.{PlainProperty};
     ghost use Rattle.graphite_props.specs.Rows.{properties_of};
-    ghost use Rattle.graphite_props.specs.Store.{AreKept};
+    ghost use Rattle.graphite_props.specs.Places.{AreKept};
 
     ghost Value = { List PlainProperty };
 
     ghost view = { λ kept. properties_of (map (λ key. key.now) kept.keys.keys) kept.rows.items };
 
-    ghost invariant = { λ kept. AreKept (map (λ key. key.now) kept.keys.keys) kept.rows.items kept.timelines };
+    ghost invariant = { λ kept. AreKept (map (λ key. key.now) kept.keys.keys) kept.rows.items kept.places };
 }
 
 impl<'a> Timelines<'a> {
@@ -51,7 +50,7 @@ impl<'a> Timelines<'a> {
         Timelines {
             keys: IndexSet::new(alloc),
             rows: Vec::new(alloc),
-            timelines: IndexMap::with_hasher(alloc, PlaceHashers::new()),
+            places: Places::new(alloc),
         }
     }
 
@@ -126,7 +125,7 @@ impl<'a> Timelines<'a> {
         ensures values { (key : List ℕ) → number ≡ position_or_len (bytes_eq key) (keys_of self.now)
             → IfSome result (λ timeline. (t : ℕ) → value_at timeline.now t ≡ property_at self.now owner key t) }
     {
-        self.timelines.get(&(owner, number))
+        self.places.timeline(&self.rows, (owner, number))
     }
 
     /// The same as `overlaps`, for the key with this number.
@@ -157,18 +156,17 @@ impl<'a> Timelines<'a> {
     {
         self.rows.reserve(1)?;
         self.keys.reserve(1)?;
+        let row = PropRow {
+            owner,
+            key: number,
+            over,
+            value,
+        };
         let alloc = *self.rows.allocator();
-        paint_timeline(alloc, &mut self.timelines, (owner, number), over, value)?;
+        self.places.paint(alloc, &self.rows, row)?;
         // the room for the rest is there, so from here on nothing fails
         add_key(&mut self.keys, key, number);
-        self.rows
-            .push(PropRow {
-                owner,
-                key: number,
-                over,
-                value,
-            })
-            .unwrap();
+        self.rows.push(row).unwrap();
         Ok(())
     }
 }

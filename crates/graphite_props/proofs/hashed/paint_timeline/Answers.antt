@@ -2,7 +2,7 @@ use Rattle.std.proofs.Common.{◌∙◌, ap, sym, subst, refl, IsSome, Some}
 use Rattle.indexmap.specs.IndexMap.{Updates}
 use Rattle.graphite_props.specs.Store.{place_eq}
 use Rattle.graphite_props.proofs.StoreLemmas.{OnErr-map, timelines-kept, IsPainted-new}
-use Rattle.graphite_props.proofs.places.paint_timeline.Goals as goal
+use Rattle.graphite_props.proofs.hashed.paint_timeline.Goals as goal
 
 pub returns-in-Some-clause-err : goal.returns-in-Some-clause-err
 returns-in-Some-clause-err c =

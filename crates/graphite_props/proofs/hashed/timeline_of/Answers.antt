@@ -1,6 +1,6 @@
 use Rattle.std.proofs.Common.{refl, subst, sym, []}
 use Rattle.graphite_part.specs.Pieces.{AreRuns, painted, value_at}
-use Rattle.graphite_props.proofs.places.timeline_of.Goals as goal
+use Rattle.graphite_props.proofs.hashed.timeline_of.Goals as goal
 
 pub returns : goal.returns
 returns c =
