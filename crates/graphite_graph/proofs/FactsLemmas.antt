@@ -18,7 +18,7 @@ use Rattle.graphite_graph.specs.declared.facts.Ask.{Ask}
 use Rattle.graphite_graph.specs.declared.facts.Facts.{Facts}
 use Rattle.graphite_graph.specs.Facts.{facts_at, AreMadeOf}
 use Rattle.graphite_graph.specs.Covered.{facts_with, asked_degree, covered_facts}
-use Rattle.graphite_graph.proofs.DegreeLemmas.{is_alive-spans}
+use Rattle.graphite_graph.proofs.CoverLemmas.{is_alive-spans}
 
 -- ---- the facts of one vertex
 

@@ -10,6 +10,7 @@ pub mod ReadingLemmas
 pub mod PropertyLemmas
 pub mod ShowLemmas
 pub mod TravelLemmas
+pub mod CoverLemmas
 pub mod DepartureLemmas
 pub mod DegreeLemmas
 pub mod FactsLemmas

@@ -1,11 +1,11 @@
-ghost use Rattle.std.specs.Prelude.{◌≡◌, ◌<◌, ◌≤◌, ◌^◌, ℕ, length, vec_len, slice_index_or, [], IfOk};
+ghost use Rattle.std.specs.Prelude.{◌≡◌, ◌<◌, ◌^◌, ℕ, length, vec_len, slice_index_or, [], IfOk};
 ghost use Rattle.std.specs.Option.{ForSome};
 ghost use Rattle.graphite_time.specs.Life.{IsLife};
 ghost use Rattle.graphite_part.specs.Pieces.{AreRuns};
 ghost use Rattle.graphite_part.specs.PlainLaws.{not_small};
 ghost use Rattle.graphite_graph.specs.FactsLaws.{facts_exact};
 ghost use Rattle.graphite_graph.specs.Facts.{facts_at, AreMadeOf};
-ghost use Rattle.graphite_graph.specs.Departure.{departing, GoFrom};
+ghost use Rattle.graphite_graph.specs.Departure.{departing, GoFrom, HaveEdges};
 ghost use Rattle.graphite_graph.specs.Covered.{facts_with, asked_degree, covered_facts};
 
 use crate::Graph;
@@ -88,8 +88,8 @@ impl<'a> Graph<'a> {
 /// where out-degrees are not asked.
 fn asked_departures(alloc: Global, graph: &Graph<'_>, ask: &Ask) -> Result<Vec<Departure>, NoMemory>
     ensures ordered { IfOk result (λ all. GoFrom 0 all.items) }
-    ensures counts { IfOk result (λ all. (v t : ℕ) → departing all.items v t ≡ asked_degree graph.now ask.now v t) }
-    ensures few { IfOk result (λ all. vec_len all ≤ 2097152) }
+    ensures edges { IfOk result (λ all. HaveEdges graph.now all.items) }
+    ensures counts { IfOk result (λ all. (v t : ℕ) → departing graph.now all.items v t ≡ asked_degree graph.now ask.now v t) }
 {
     if ask.outdegree {
         return sorted_departures(alloc, graph);
@@ -108,8 +108,8 @@ fn made_from<T: Plain, F: Fn(Facts) -> T>(
 ) -> Result<Vec<Partition<T>>, NoMemory>
     requires callable { (v t : ℕ) → ForSome (facts_at graph.now ask.now v t) (F.pre f.now) }
     requires ordered { GoFrom 0 departures.now }
-    requires few { length departures.now < 2 ^ 32 }
-    requires counts { (v t : ℕ) → departing departures.now v t ≡ asked_degree graph.now ask.now v t }
+    requires edges { HaveEdges graph.now departures.now }
+    requires counts { (v t : ℕ) → departing graph.now departures.now v t ≡ asked_degree graph.now ask.now v t }
     ensures len { IfOk result (λ made. vec_len made ≡ length graph.now.vertices) }
     ensures made { IfOk result (λ made. (v : ℕ) → v < length graph.now.vertices
         → AreMadeOf (F.post f.now) (facts_at graph.now ask.now v) (slice_index_or made.items v [])) }
@@ -118,7 +118,7 @@ fn made_from<T: Plain, F: Fn(Facts) -> T>(
     let mut covers = Vec::new(alloc);
     let mut rest = departures;
     for v in 0..graph.vertices() {
-        rest = take_covers(rest, v, &mut covers)?;
+        rest = take_covers(graph, rest, v, &mut covers)?;
         made.push(made_of_vertex(alloc, v, graph.vertex_life(v), &covers, f)?)?;
     }
     Ok(made)

@@ -5,4 +5,4 @@ use Rattle.graphite_graph.proofs.facts.asked_departures.Goals as goal
 
 pub returns-then-ask-clause-counts : goal.returns-then-ask-clause-counts
 returns-then-ask-clause-counts c =
-    subst (λ b. IfOk c.sorted_departures.result (λ all. (v t : ℕ) → departing all.items v t ≡ cond b (out_degree c.args.graph.now v t) 0)) (sym c.if-ask.true) c.sorted_departures.ensures.counts
+    subst (λ b. IfOk c.sorted_departures.result (λ all. (v t : ℕ) → departing c.args.graph.now all.items v t ≡ cond b (out_degree c.args.graph.now v t) 0)) (sym c.if-ask.true) c.sorted_departures.ensures.counts

@@ -6,7 +6,7 @@ use Rattle.graphite_graph.proofs.facts.made_from.Goals as goal
 pub loop-v-init : goal.loop-v-init
 loop-v-init g c = record {
   ordered = c.requires.ordered;
-  few = omega arith;
+  edges = c.requires.edges;
   counts = λ w t h. c.requires.counts w t;
   made = AreMadeTo-none _ c.args.graph.now c.args.ask.now c.in_ok-made.made.items c.in_ok-made.ensures.items;
 }
@@ -28,7 +28,7 @@ loop-v-preserved g c =
     (λ t. ap (λ xs. covers_at xs t) c.deref.ensures.value ∙ c.in_ok-rest.ensures.covers t ∙ c.loop-v.invariant.counts v t (omega arith)) in
     record {
       ordered = c.in_ok-rest.ensures.ordered;
-      few = omega (arith, c.in_ok-rest.ensures.shorter, c.loop-v.invariant.few);
+      edges = c.in_ok-rest.ensures.edges;
       counts = λ w t h. c.in_ok-rest.ensures.others w t (omega arith) ∙ c.loop-v.invariant.counts w t (omega arith);
       made = AreMadeTo-more _ graph ask v c.loop-v.made.items c.push.new.self.items made c.loop-v.invariant.made (AreMadeOf-as _ _ _ made covered c.in_ok-made_of_vertex.ensures) c.in_ok-push.ensures.items;
     }
