@@ -1,4 +1,4 @@
-ghost use Rattle.graphite_part.specs.PlainLaws.{not_small};
+ghost use Rattle.std.proofs.Common.{true, lit<};
 ghost use Rattle.graphite_api.specs.ArcOrder.{arc_exact};
 
 use graphite_part::Plain;
@@ -27,5 +27,15 @@ pub struct Arc {
 impl Plain for Arc {
     ghost exact = { arc_exact };
 
-    ghost small = { not_small };
+    const IN_PLACE: bool = true;
+
+    ghost IN_PLACE = { true };
+
+    ghost fits = { λ _. lit< tt };
+
+    const OPTION_IN_PLACE: bool = true;
+
+    ghost OPTION_IN_PLACE = { true };
+
+    ghost option_fits = { λ _. lit< tt };
 }

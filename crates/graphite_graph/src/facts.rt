@@ -2,7 +2,7 @@ ghost use Rattle.std.specs.Prelude.{◌≡◌, ◌<◌, ◌^◌, ℕ, length, ve
 ghost use Rattle.std.specs.Option.{ForSome};
 ghost use Rattle.graphite_time.specs.Life.{IsLife};
 ghost use Rattle.graphite_part.specs.Pieces.{AreRuns};
-ghost use Rattle.graphite_part.specs.PlainLaws.{not_small};
+ghost use Rattle.std.proofs.Common.{true, lit<};
 ghost use Rattle.graphite_graph.specs.FactsLaws.{facts_exact};
 ghost use Rattle.graphite_graph.specs.Facts.{facts_at, AreMadeOf};
 ghost use Rattle.graphite_graph.specs.Departure.{departing, GoFrom, HaveEdges};
@@ -37,7 +37,17 @@ pub struct Facts {
 impl Plain for Facts {
     ghost exact = { facts_exact };
 
-    ghost small = { not_small };
+    const IN_PLACE: bool = true;
+
+    ghost IN_PLACE = { true };
+
+    ghost fits = { λ _. lit< tt };
+
+    const OPTION_IN_PLACE: bool = true;
+
+    ghost OPTION_IN_PLACE = { true };
+
+    ghost option_fits = { λ _. lit< tt };
 }
 
 impl Facts {

@@ -34,6 +34,6 @@ pair_exact cmp cmp' exact exact' (x, u) (y, v) h =
     let second = exact' u v both.1 in
     cc
 
--- what is not known to be small owes nothing
-pub not_small : {A : Type 0} → false ≡ true → A
-not_small e = cc
+-- where nothing is kept in place nothing need be known of its size
+pub not_known : {A : Type 0} → false ≡ true → A
+not_known e = cc

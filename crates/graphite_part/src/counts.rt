@@ -52,7 +52,9 @@ pub(crate) fn counted_pieces(
     ensures { IfOk result (λ out. AreRuns
         (λ t. option_map (λ n. n + open_at starts.now ends.now t) (value_at pieces.now t)) out.items) }
 {
-    let mut out = Vec::with_capacity(alloc, pieces.len())?;
+    // each piece, start and end begins one at most
+    let most = pieces.len().saturating_add(starts.len());
+    let mut out = Vec::with_capacity(alloc, most.saturating_add(ends.len()))?;
     let mut passed = Passed { starts: 0, ends: 0 };
     for piece in pieces {
         passed = fill_counted(&mut out, *piece, starts, ends, passed)?;

@@ -1,4 +1,4 @@
-ghost use Rattle.std.specs.Prelude.{◌≡◌, ◌≤◌, [], map, IfOk, OnOk, OnErr};
+ghost use Rattle.std.specs.Prelude.{◌≡◌, ◌≤◌, true, [], ◌∷◌, map, IfOk, OnOk, OnErr};
 ghost use Rattle.graphite_time.specs.Interval.{start_of, end_of};
 ghost use Rattle.graphite_part.specs.Pieces.{value_at, value_on, painted, last_end, piece_on, IsChain, AreRuns};
 
@@ -28,7 +28,7 @@ impl<T: Plain> Model for Partition<T> {
     ghost view = { λ partition. items_of partition.pieces };
 
     ghost invariant = { λ partition. IsChain (items_of partition.pieces)
-        × (IsInPlace partition.pieces → T.is_small ≡ true) };
+        × (IsInPlace partition.pieces → T.IN_PLACE ≡ true) };
 }
 
 impl<T: Plain> Partition<T> {
@@ -43,7 +43,12 @@ impl<T: Plain> Partition<T> {
     pub fn on_life(alloc: Global, life: &Life, value: T) -> Result<Partition<T>, NoMemory>
         ensures { IfOk result (AreRuns (value_on life.now value)) }
     {
-        let pieces = pieces_on(alloc, life.spans(), value)?;
+        let spans = life.spans();
+        if T::IN_PLACE && spans.len() == 1 {
+            let over = spans[0];
+            return Ok(Partition::of_one(alloc, Piece { over, value }));
+        }
+        let pieces = pieces_on(alloc, spans, value)?;
         Ok(Partition::from_pieces(pieces))
     }
 
@@ -52,8 +57,21 @@ impl<T: Plain> Partition<T> {
         requires { IsChain pieces.items }
         ensures { result ≡ pieces.items }
     {
+        if T::IN_PLACE && pieces.len() == 1 {
+            return Partition::of_one(*pieces.allocator(), pieces[0]);
+        }
         Partition {
             pieces: Pieces::Many(pieces),
+        }
+    }
+
+    /// The partition of a single piece, which is kept in place.
+    fn of_one(alloc: Global, piece: Piece<T>) -> Partition<T>
+        requires { T.IN_PLACE ≡ true }
+        ensures { result ≡ piece ∷ [] }
+    {
+        Partition {
+            pieces: Pieces::One { alloc, piece },
         }
     }
 
@@ -85,6 +103,11 @@ impl<T: Plain> Partition<T> {
         ensures end { OnOk result (last_end self.new ≡ end_of over) }
         ensures err { OnErr result (self.new ≡ self.old) }
     {
+        if T::IN_PLACE && self.pieces().is_empty() {
+            let first = Piece { over, value };
+            *self = Partition::of_one(self.allocator(), first);
+            return Ok(());
+        }
         if let Pieces::Many(pieces) = &mut self.pieces {
             return push_piece(pieces, over, value);
         }
@@ -109,19 +132,15 @@ impl<T: Plain> Partition<T> {
 }
 
 impl Partition<u32> {
-    ghost use Rattle.std.specs.Prelude.{ℕ, IfSome, IsOk, length, ◌∷◌, ◌+◌, ◌^◌, ◌<◌};
+    ghost use Rattle.std.specs.Prelude.{ℕ, IfSome, IsOk, length, ◌+◌, ◌^◌, ◌<◌};
     ghost use Rattle.graphite_part.specs.Counts.{counted};
 
     /// One value over an interval. It takes no memory.
     pub fn one(alloc: Global, over: Interval, value: u32) -> Partition<u32>
         ensures { result ≡ piece_on value over ∷ [] }
     {
-        Partition {
-            pieces: Pieces::One {
-                alloc,
-                piece: Piece { over, value },
-            },
-        }
+        let piece = Piece { over, value };
+        Partition::of_one(alloc, piece)
     }
 
     /// Adds to each value, at each instant, the number of `covers` that hold the instant. Instants

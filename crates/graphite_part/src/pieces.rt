@@ -20,7 +20,7 @@ pub(crate) enum Pieces<T: Plain> {
 
 impl<T: Plain> Pieces<T> {
     pub(crate) fn as_slice(&self) -> &[Piece<T>]
-        requires { IsInPlace self.now → T.is_small ≡ true }
+        requires { IsInPlace self.now → T.IN_PLACE ≡ true }
         ensures { result.now ≡ items_of self.now }
     {
         match self {

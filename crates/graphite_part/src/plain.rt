@@ -1,51 +1,109 @@
 ghost use Rattle.std.specs.Prelude.{◌≡◌, ◌↔◌, Bool, true, false, IsTrue};
 ghost use Rattle.std.specs.Mem.{FitsInMemory};
 ghost use Rattle.std.proofs.Common.{lit<};
-ghost use Rattle.graphite_part.specs.contracts.piece.Piece.{the_row};
+ghost use Rattle.graphite_part.specs.contracts.piece.Piece.{the_row as piece_row};
+ghost use Rattle.std.specs.contracts.option.Option.{the_row as option_row};
 ghost use Rattle.graphite_part.specs.Plain.{IsExact};
-ghost use Rattle.graphite_part.specs.PlainLaws.{bool_exact, nat_exact, not_small, option_exact, pair_exact};
+ghost use Rattle.graphite_part.specs.PlainLaws.{bool_exact, nat_exact, not_known, option_exact, pair_exact};
 
 /// Plain values: they are copied, and those that compare equal are the same value.
 pub trait Plain: Copy + Ord {
     ghost exact: { IsExact Self.cmp };
 
-    // Whether a piece with a value is known to fit in memory: only then is a single one kept in place.
-    // A type that does not say so has `not_small` for `small`.
-    ghost is_small: { Bool } = { false };
+    /// Whether a single piece with a value is kept in place, which asks that it is known to fit in
+    /// memory.
+    const IN_PLACE: bool;
 
-    ghost small: { Self.is_small ≡ true → FitsInMemory (the_row Self.row) };
+    ghost IN_PLACE: { Bool };
+
+    ghost fits: { Self.IN_PLACE ≡ true → FitsInMemory (piece_row Self.row) };
+
+    /// The same of a piece with a value or nothing.
+    const OPTION_IN_PLACE: bool;
+
+    ghost OPTION_IN_PLACE: { Bool };
+
+    ghost option_fits: { Self.OPTION_IN_PLACE ≡ true → FitsInMemory (piece_row (option_row Self.row)) };
 }
 
 impl Plain for bool {
     ghost exact = { bool_exact };
 
-    ghost small = { not_small };
+    const IN_PLACE: bool = true;
+
+    ghost IN_PLACE = { true };
+
+    ghost fits = { λ _. lit< tt };
+
+    const OPTION_IN_PLACE: bool = true;
+
+    ghost OPTION_IN_PLACE = { true };
+
+    ghost option_fits = { λ _. lit< tt };
 }
 
 impl Plain for u32 {
     ghost exact = { nat_exact };
 
-    ghost is_small = { true };
+    const IN_PLACE: bool = true;
 
-    ghost small = { λ _. lit< tt };
+    ghost IN_PLACE = { true };
+
+    ghost fits = { λ _. lit< tt };
+
+    const OPTION_IN_PLACE: bool = true;
+
+    ghost OPTION_IN_PLACE = { true };
+
+    ghost option_fits = { λ _. lit< tt };
 }
 
 impl Plain for u64 {
     ghost exact = { nat_exact };
 
-    ghost small = { not_small };
+    const IN_PLACE: bool = true;
+
+    ghost IN_PLACE = { true };
+
+    ghost fits = { λ _. lit< tt };
+
+    const OPTION_IN_PLACE: bool = true;
+
+    ghost OPTION_IN_PLACE = { true };
+
+    ghost option_fits = { λ _. lit< tt };
 }
 
 impl<T: Plain> Plain for Option<T> {
     ghost exact = { option_exact T.cmp T.exact };
 
-    ghost small = { not_small };
+    const IN_PLACE: bool = T::OPTION_IN_PLACE;
+
+    ghost IN_PLACE = { T.OPTION_IN_PLACE };
+
+    ghost fits = { T.option_fits };
+
+    const OPTION_IN_PLACE: bool = false;
+
+    ghost OPTION_IN_PLACE = { false };
+
+    ghost option_fits = { not_known };
 }
 
 impl<T: Plain, U: Plain> Plain for (T, U) {
     ghost exact = { pair_exact T.cmp U.cmp T.exact U.exact };
 
-    ghost small = { not_small };
+    const IN_PLACE: bool = false;
+
+    ghost IN_PLACE = { false };
+
+    ghost fits = { not_known };
+
+    const OPTION_IN_PLACE: bool = false;
+
+    ghost OPTION_IN_PLACE = { false };
+
+    ghost option_fits = { not_known };
 }
 
 /// Whether two values are the same.
