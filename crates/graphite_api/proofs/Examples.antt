@@ -13,29 +13,29 @@ use Rattle.graphite_api.specs.Calls.{is_quiet, supersteps_made, calls_in, calls_
 use Rattle.graphite_api.specs.BreadthFirst.{breadth_first}
 
 -- an arc of time and cost 1
-abbrev arc : ℕ → ℕ → ℕ → Interval → Arc
+abbrev pub arc : ℕ → ℕ → ℕ → Interval → Arc
 arc edge from to over = record { from = from; edge = edge; over = over; to = to; time = 1; cost = 1; stay = over }
 
 run : {X : Type 0} → ℕ → ℕ → X → Run X
 run from until value = record { from = from; until = until; value = value }
 
-abbrev from0to5 : Interval
+abbrev pub from0to5 : Interval
 from0to5 = record { a = 0; b = 5; proper = (lit< tt, lit≤ tt) }
 
-abbrev from0to10 : Interval
+abbrev pub from0to10 : Interval
 from0to10 = record { a = 0; b = 10; proper = (lit< tt, lit≤ tt) }
 
-abbrev from2to8 : Interval
+abbrev pub from2to8 : Interval
 from2to8 = record { a = 2; b = 8; proper = (lit< tt, lit≤ tt) }
 
-abbrev from3to7 : Interval
+abbrev pub from3to7 : Interval
 from3to7 = record { a = 3; b = 7; proper = (lit< tt, lit≤ tt) }
 
 -- Three vertices a, b and c; an edge from a to b over the instants 0 to 4, and one from b to c over 3 to 6.
-abbrev lives : List (List Interval)
+abbrev pub lives : List (List Interval)
 lives = (from0to10 ∷ []) ∷ (from0to10 ∷ []) ∷ (from2to8 ∷ []) ∷ []
 
-abbrev arcs : List Arc
+abbrev pub arcs : List Arc
 arcs = arc 0 0 1 from0to5 ∷ arc 1 1 2 from3to7 ∷ []
 
 -- a is the source

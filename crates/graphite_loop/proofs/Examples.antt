@@ -1,43 +1,23 @@
 -- Supersteps over all instants at once, on small graphs.
-use Rattle.std.proofs.Common.{◌≡◌, ◌<◌, ◌==◌, ℕ, zero, suc, true, false, cond, map, List, [], ◌∷◌, Option, Some, None, is_some, get_or, refl, sym, ap, ◌∙◌, lit<, lit≤, arith}
-use Rattle.graphite_time.specs.declared.interval.Interval.{Interval}
+use Rattle.std.proofs.Common.{◌≡◌, ◌<◌, ◌==◌, ℕ, zero, suc, true, false, cond, map, List, [], ◌∷◌, Option, Some, None, is_some, get_or, refl, sym, ap, ◌∙◌, lit≤, arith}
 use Rattle.graphite_time.specs.Interval.{start_of, end_of, holds}
 use Rattle.graphite_time.specs.Meet.{meet_of}
 use Rattle.graphite_part.specs.declared.piece.Piece.{Piece}
 use Rattle.graphite_part.specs.Pieces.{piece_on, AreRuns}
 use Rattle.graphite_warp.specs.declared.message.Message.{Message}
-use Rattle.graphite_api.specs.declared.arc.Arc.{Arc}
 use Rattle.graphite_api.specs.BreadthFirst.{breadth_first}
+use Rattle.graphite_api.proofs.Examples.{arcs, from0to5, from0to10, from2to8}
 use Rattle.graphite_loop.specs.Sweep.{Rules, left_at, state_of, sent_of, delivered}
 use Rattle.graphite_loop.specs.Superstep.{Standing, list_at, left_in, input_with, input_at, IsSuperstep}
 use Rattle.graphite_loop.specs.Run.{IsRun}
 use Rattle.graphite_loop.specs.Points.{point_rules}
 
--- an arc of time and cost 1
-abbrev arc : ℕ → ℕ → ℕ → Interval → Arc
-arc edge from to over = record { from = from; edge = edge; over = over; to = to; time = 1; cost = 1; stay = over }
-
-abbrev from0to5 : Interval
-from0to5 = record { a = 0; b = 5; proper = (lit< tt, lit≤ tt) }
-
-abbrev from0to10 : Interval
-from0to10 = record { a = 0; b = 10; proper = (lit< tt, lit≤ tt) }
-
-abbrev from2to8 : Interval
-from2to8 = record { a = 2; b = 8; proper = (lit< tt, lit≤ tt) }
-
-abbrev from3to7 : Interval
-from3to7 = record { a = 3; b = 7; proper = (lit< tt, lit≤ tt) }
-
 -- the least number of edges from a source
 abbrev hops : Rules (Option ℕ) ℕ
 hops = point_rules breadth_first
 
--- Three vertices a, b and c; an edge from a to b over the instants 0 to 4, and one from b to c over 3 to
--- 6. The source is a, which tells b the number 1.
-abbrev arcs : List Arc
-arcs = arc 0 0 1 from0to5 ∷ arc 1 1 2 from3to7 ∷ []
-
+-- Three vertices a, b and c with the lives and the arcs of the examples of graphite_api. The source is a, which
+-- tells b the number 1.
 abbrev init : List (List (Piece (Option ℕ)))
 init = (piece_on (Some 0) from0to10 ∷ []) ∷ (piece_on None from0to10 ∷ []) ∷ (piece_on None from2to8 ∷ []) ∷ []
 
