@@ -44,7 +44,7 @@ list_of-read (xs ∷ lists) zero d within = refl
 list_of-read (xs ∷ lists) (suc v) d within = list_of-read lists v d (omega (arith, within))
 
 -- one number more
-range_more : (a n : ℕ) → range_with_len a (n + 1) ≡ range_with_len a n ++ (a + n) ∷ []
+pub range_more : (a n : ℕ) → range_with_len a (n + 1) ≡ range_with_len a n ++ (a + n) ∷ []
 range_more a zero = let start : a ≡ a + 0 = omega arith in ap (λ m. m ∷ []) start
 range_more a (suc n) =
     let here : suc n + 1 ≡ suc (n + 1) = omega arith in

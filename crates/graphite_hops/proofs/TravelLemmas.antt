@@ -22,6 +22,7 @@ use Rattle.graphite_graph.specs.Ends.{edge_ends}
 use Rattle.graphite_graph.proofs.LifeLemmas.{is_alive-as_span}
 use Rattle.graphite_props.specs.Properties.{is_property_of, has_property}
 use Rattle.graphite_api.specs.declared.arc.Arc.{Arc}
+use Rattle.graphite_api.proofs.LeftLemmas.{range_more}
 use Rattle.graphite_hops.specs.Arcs.{travel_at, arc_between, arc_on, AreArcsOf, EdgeAdded, IsArcIn}
 use Rattle.graphite_hops.specs.Links.{ends_of}
 use Rattle.graphite_hops.specs.Overlay.{paired}
@@ -136,13 +137,6 @@ edge_fits graph e ends pieces old new fits runs is before =
     subst (All (IsArcIn graph)) (sym is) (All-append (IsArcIn graph) old (map (arc_between e ends) pieces) before (arcs_fit graph e ends pieces fits runs.in_order (λ t x there. sym (runs.values t) ∙ there)))
 
 -- ---- the arcs of more edges
-
-pub range_more : (a n : ℕ) → range_with_len a (n + 1) ≡ range_with_len a n ++ (a + n) ∷ []
-range_more a zero = let start : a ≡ a + 0 = omega arith in ap (λ m. m ∷ []) start
-range_more a (suc n) =
-    let here : suc n + 1 ≡ suc (n + 1) = omega arith in
-    let last : (a + 1) + n ≡ a + suc n = omega arith in
-    ap (range_with_len a) here ∙ ap (λ xs. a ∷ xs) (range_more (a + 1) n ∙ ap (λ m. range_with_len (a + 1) n ++ m ∷ []) last)
 
 flat_map-same : {X : Type 0} (f g : ℕ → List X) (a n : ℕ) → ((k : ℕ) → a ≤ k → k < a + n → f k ≡ g k) → flat_map f (range_with_len a n) ≡ flat_map g (range_with_len a n)
 flat_map-same f g a zero same = refl
