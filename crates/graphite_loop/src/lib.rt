@@ -7,8 +7,6 @@ mod points;
 mod run;
 mod scatter;
 mod steps;
-#[cfg(test)]
-mod tests;
 mod vertex;
 mod walk;
 

@@ -15,4 +15,6 @@ pub use run::{SnapAnswer, run_snap};
 pub use start::point_start;
 
 #[cfg(test)]
+mod loop_tests;
+#[cfg(test)]
 mod tests;

@@ -77,7 +77,7 @@ fn a_search_starts_and_goes_on(rt: HostRuntime) -> Result<(), Fail> {
 type Row = (usize, u64, Option<Option<u64>>);
 
 /// Three vertices, and an edge each from the first to the second and from there to the third.
-fn three_stops() -> &'static [u8] {
+pub(crate) fn three_stops() -> &'static [u8] {
     b"graph 1 10\nv a 0 10\nv b 0 10\nv c 2 8\ne ab a b 0 5\ne bc b c 3 7\nend\n"
 }
 
