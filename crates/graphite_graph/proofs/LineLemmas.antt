@@ -1,6 +1,6 @@
 -- What is known of a line from what it says.
 use Rattle.std.proofs.Common.{◌≡◌, refl, sym, ap, subst, ◌∙◌, ℕ, ◌≤◌, ◌==◌, nat_le, Bool, true, false, ◌&&◌, List, [], ◌∷◌, codes, Option, Some, None, option_and_then, Result, Ok, Err, if◌then◌else◌}
-use Rattle.std.proofs.lemmas.Bool.{leb-true}
+use Rattle.std.proofs.lemmas.Bool.{leb-true, and_parts}
 use Rattle.std.specs.Cmp.Lexicographic.{bytes_decides}
 use Rattle.std.specs.Str.{bytes_eq}
 use Rattle.graphite_base.specs.Numbers.{is_canonical, value_of, number_in}
@@ -8,7 +8,6 @@ use Rattle.graphite_time.specs.declared.TheConstants.{LAST}
 use Rattle.graphite_text.specs.Lines.{fields_of}
 use Rattle.graphite_text.specs.Forms.{Shape, GraphShape, VertexShape, EdgeShape, VertexPropertyShape, EdgePropertyShape, EndShape, Form, Header, Vertex, Edge, VertexProperty, EdgeProperty, End, is_line, is_skipped, shape_of, has_names, form_of, horizon_in, span_in, value_in, line_form, shape_form, numbers_form}
 use Rattle.graphite_graph.specs.Step.{HasHorizon}
-use Rattle.graphite_graph.proofs.LifeLemmas.{second_of_two}
 
 -- the word of a record
 abbrev pub word_of : Form → List ℕ
@@ -77,7 +76,7 @@ bound (Some a) f b e = (a, refl, e)
 number_in-le : (max : ℕ) (field : List ℕ) (n : ℕ) → number_in max field ≡ Some n → n ≤ max
 number_in-le max field n e =
     let found = some_if (is_canonical field && nat_le (value_of field) max) (value_of field) n e in
-    let below : value_of field ≤ max = leb-true _ _ (second_of_two (is_canonical field) (nat_le (value_of field) max) found.0) in
+    let below : value_of field ≤ max = leb-true _ _ (and_parts _ _ found.0).1 in
     subst (λ m. m ≤ max) found.1 below
 
 horizon_in-le : (field : List ℕ) (h : ℕ) → horizon_in field ≡ Some h → h ≤ LAST

@@ -1,22 +1,21 @@
 -- What holds of the edges of each graph that a text is accepted with: their ends are alive while they are, and they take time.
-use Rattle.std.proofs.Common.{◌≡◌, refl, sym, ap, subst, ◌∙◌, ℕ, zero, suc, ◌+◌, ◌-◌, ◌<◌, ◌≤◌, ◌==◌, arith, Bool, true, false, ◌&&◌, ◌||◌, cond, List, [], ◌∷◌, ◌++◌, Option, Some, None, option_map, slice_get, eq-eqb, ⊎_elim, IsTrue}
+use Rattle.std.proofs.Common.{◌≡◌, refl, sym, subst, ◌∙◌, ℕ, zero, suc, ◌-◌, ◌<◌, ◌≤◌, ◌==◌, arith, Bool, true, false, ◌&&◌, ◌||◌, cond, List, [], ◌∷◌, ◌++◌, Some, None, option_map, slice_get, eq-eqb, ⊎_elim, IsTrue}
 use Rattle.std.specs.Prelude.{codes, unwrap_or}
 use Rattle.std.specs.List.{find}
 use Rattle.std.specs.Str.{bytes_eq}
-use Rattle.std.proofs.lemmas.Bool.{and_parts, or_parts, or_from, not-false, leb-true, ltb-true, cond-true, cond-false, cases_lt, false≢true}
+use Rattle.std.proofs.lemmas.Bool.{and_parts, or_parts, not-false, leb-true, ltb-true, cases_lt, false≢true}
 use Rattle.std.proofs.lemmas.Slice.Eq.{bytes_eq-Decides}
 use Rattle.graphite_text.specs.declared.span.Span.{Span}
-use Rattle.graphite_text.specs.Canonical.{canonical_text, first_span, edge_form, edge_property_form, vertex_name_at}
+use Rattle.graphite_text.specs.Canonical.{canonical_text, first_span, edge_form, edge_property_form}
 use Rattle.graphite_text.specs.Forms.{Form}
-use Rattle.graphite_text.specs.Graph.{PlainVertex, PlainEdge, PlainProperty, PlainGraph, spans, is_alive, vertex_life, edge_life, is_property_at, edge_property_at, vertex_is_alive, edge_is_alive, travel_time}
-use Rattle.graphite_text.specs.Reading.{Known, Accepted, reading_of, at_each, throughout, breaks_order, breaks_new_name, breaks_declared, breaks_ends, breaks_owner, breaks_apart, breaks_travel}
+use Rattle.graphite_text.specs.Graph.{PlainVertex, PlainEdge, PlainProperty, PlainGraph, spans, is_alive, vertex_life, is_property_at, vertex_is_alive, edge_is_alive, travel_time}
+use Rattle.graphite_text.specs.Reading.{Known, Accepted, reading_of, throughout, breaks_order, breaks_new_name, breaks_declared, breaks_ends, breaks_owner, breaks_apart, breaks_travel}
 use Rattle.graphite_text.proofs.AcceptedLines.{breaks_early}
-use Rattle.graphite_text.proofs.NameLemmas.{number_of}
 use Rattle.graphite_text.proofs.RoundTrip.{accepted_is_sound}
-use Rattle.graphite_text.proofs.SoundLemmas.{EachFits, EdgeFits, EdgePropertyFits, IsSound, front, vertex_named}
+use Rattle.graphite_text.proofs.SoundLemmas.{EachFits, EdgeFits, EdgePropertyFits, front}
 use Rattle.graphite_graph.specs.declared.ends.Ends.{Ends}
 use Rattle.graphite_graph.specs.Ends.{edge_ends}
-use Rattle.graphite_graph.proofs.LifeLemmas.{at_each-true}
+use Rattle.graphite_text.proofs.ThroughoutLemmas.{at_each-true}
 
 -- an element fits behind some that stand before it
 fits_at : {X : Type 0} (Fits : List X → X → Type 0) (before xs : List X) (k : ℕ) (x : X) → EachFits Fits before xs → slice_get xs k ≡ Some x → (those : List X) × Fits those x

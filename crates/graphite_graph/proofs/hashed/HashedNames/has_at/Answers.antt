@@ -2,7 +2,7 @@ use Rattle.std.proofs.Common.{◌∙◌, ◌≡◌, Some, ap, sym, refl, subst, 
 use Rattle.std.specs.Str.{bytes_eq}
 use Rattle.std.proofs.lemmas.Bool.{ltb-true}
 use Rattle.std.proofs.lemmas.Option.{slice_get_read}
-use Rattle.graphite_graph.proofs.ListLemmas.{position-map}
+use Rattle.graphite_props.proofs.ListLemmas.{position-map}
 use Rattle.graphite_graph.proofs.NameLemmas.{place_of_name}
 use Rattle.graphite_graph.proofs.hashed.HashedNames.has_at.Goals as goal
 

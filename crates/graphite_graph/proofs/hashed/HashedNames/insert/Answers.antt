@@ -1,6 +1,7 @@
 use Rattle.std.proofs.Common.{◌∙◌, sym, ap, position, not, is_some}
 use Rattle.std.specs.Str.{bytes_eq}
-use Rattle.graphite_graph.proofs.ListLemmas.{list_any-map, is_some-position}
+use Rattle.graphite_props.proofs.ListLemmas.{list_any-map}
+use Rattle.graphite_graph.proofs.ListLemmas.{is_some-position}
 use Rattle.graphite_graph.proofs.hashed.HashedNames.insert.Goals as goal
 
 pub returns-clause-added : goal.returns-clause-added

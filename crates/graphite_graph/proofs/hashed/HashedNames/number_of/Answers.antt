@@ -1,6 +1,6 @@
 use Rattle.std.proofs.Common.{◌∙◌, sym, ap, position}
 use Rattle.std.specs.Str.{bytes_eq}
-use Rattle.graphite_graph.proofs.ListLemmas.{position-map}
+use Rattle.graphite_props.proofs.ListLemmas.{position-map}
 use Rattle.graphite_graph.proofs.hashed.HashedNames.number_of.Goals as goal
 
 pub returns-in-Some-clause-number : goal.returns-in-Some-clause-number
