@@ -8,9 +8,9 @@
 For each number of edges N a text of N vertices and N edges is made, on a horizon of 1,000,000,000
 instants: lives and edges are spread at random. With --properties each vertex has a property and each
 edge two, on its whole life. The program runs the words on it, pinned to one processor. A line gives
-the least wall time and the peak memory; with --peer another program is run on the same text, and its
-bytes have to be the same. The last line is the exponent with which the time grows from the least to
-the greatest N. Where files with texts are given, these are run in place of texts that are made.
+the least wall time and the peak memory; with --peer another program is run on the same text, and the
+line says whether its bytes are the same. The last line is the exponent with which the time grows from
+the first N to the last. Where files with texts are given, these are run in place of texts that are made.
 """
 import argparse
 import filecmp
