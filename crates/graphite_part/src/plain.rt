@@ -1,3 +1,4 @@
+//! The values of partitions, which are copied and compared.
 ghost use Rattle.std.specs.Prelude.{◌≡◌, ◌↔◌, Bool, true, false, IsTrue};
 ghost use Rattle.std.specs.Mem.{FitsInMemory};
 ghost use Rattle.std.proofs.Common.{lit<};
@@ -6,8 +7,9 @@ ghost use Rattle.std.specs.contracts.option.Option.{the_row as option_row};
 ghost use Rattle.graphite_part.specs.Plain.{IsExact};
 ghost use Rattle.graphite_part.specs.PlainLaws.{bool_exact, nat_exact, not_known, option_exact, pair_exact};
 
-/// Plain values: they are copied, and those that compare equal are the same value.
-pub trait Plain: Copy + Ord {
+/// Plain values: they are copied, those that compare equal are the same value, and one of them stands
+/// where none is given.
+pub trait Plain: Copy + Ord + Default {
     ghost exact: { IsExact Self.cmp };
 
     /// Whether a single piece with a value is kept in place, which asks that it is known to fit in

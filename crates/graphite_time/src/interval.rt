@@ -1,9 +1,8 @@
+//! Intervals of instants, and what two of them have in common.
 ghost use Rattle.std.specs.Prelude.{◌≡◌, ◌<◌, ◌≤◌, ◌↔◌, ◌&&◌, ℕ, false, IsSome, IfSome, IfNone};
 ghost use Rattle.graphite_time.specs.declared.TheConstants.{LAST};
 
 use crate::LAST;
-use std::alloc::Global;
-use std::default::MadeWith;
 
 /// The instants from a start up to an end, the end not among them. An interval holds at least one
 /// instant, and ends at most at [`LAST`].
@@ -14,9 +13,9 @@ pub struct Interval {
     ghost proper: { (a < b) × (b ≤ LAST) },
 }
 
-/// What an unused place of a short list of intervals holds: the first instant.
-impl MadeWith<Global> for Interval {
-    fn made_with(_alloc: Global) -> Interval {
+/// The first instant alone: what an unused place of a list kept in place holds.
+impl Default for Interval {
+    fn default() -> Interval {
         Interval { a: 0, b: 1 }
     }
 }
