@@ -9,7 +9,8 @@ use Rattle.std.proofs.lemmas.Bool.{cond-true, cond-false}
 use Rattle.std.proofs.lemmas.Bool.Decides.{nat_tests}
 use Rattle.graphite_time.specs.declared.interval.Interval.{Interval}
 use Rattle.graphite_time.specs.Interval.{holds}
-use Rattle.graphite_time.specs.Meet.{ends_in_time, between, meet_of}
+use Rattle.graphite_time.specs.Meet.{meet_of}
+use Rattle.graphite_time.proofs.MeetLemmas.{Meets, meet_of-Meets}
 use Rattle.graphite_time.proofs.LifeLemmas.{holds-true}
 use Rattle.graphite_part.specs.declared.piece.Piece.{Piece}
 use Rattle.graphite_part.specs.Pieces.{value_at, IsChain}
@@ -28,25 +29,6 @@ use Rattle.graphite_loop.specs.Points.{point_rules}
 held-append : {M : Type 0} (xs ys : List (Message M)) (t : ℕ) → held_notes (xs ++ ys) t ≡ held_notes xs t ++ held_notes ys t
 held-append xs ys t =
     ap (map (λ message. message.note)) (filter-append (λ message. holds message.over t) xs ys) ∙ map-append _ _ _
-
--- what it is for the common instants of two intervals to be these, at one instant
-abbrev Meets : Interval → Interval → ℕ → Option Interval → Type 0
-Meets x y t None = (holds x t && holds y t) ≡ false
-Meets x y t (Some over) = holds over t ≡ (holds x t && holds y t)
-
-meets-between : (x y : Interval) (t : ℕ) (c : Bool) (e : nat_lt (max x.a y.a) (min x.b y.b) ≡ c) → Meets x y t (between (max x.a y.a) (min x.b y.b) (ends_in_time x y) c e)
-meets-between x y t true e = meeting x.a x.b y.a y.b t
-  where
-    meeting : (a b c d t : ℕ) → (nat_le (max a c) t && nat_lt t (min b d)) ≡ ((nat_le a t && nat_lt t b) && (nat_le c t && nat_lt t d))
-    meeting a b c d t = grind (arith, nat_tests)
-meets-between x y t false e = apart x.a x.b y.a y.b t e
-  where
-    apart : (a b c d t : ℕ) → nat_lt (max a c) (min b d) ≡ false → ((nat_le a t && nat_lt t b) && (nat_le c t && nat_lt t d)) ≡ false
-    apart a b c d t e = grind (arith, nat_tests)
-
-meets : (x y : Interval) (t : ℕ) → Meets x y t (meet_of x y)
-unfolding meet_of
-meets x y t = meets-between x y t (nat_lt (max x.a y.a) (min x.b y.b)) refl
 
 module _ {S M : Type 0} (plan : Plan S M) where
   -- the note that a state tells along an arc
@@ -70,7 +52,7 @@ module _ {S M : Type 0} (plan : Plan S M) where
 
   held-piece : (arc : Arc) (piece : Piece S) (t : ℕ) → held_notes (brought_by (point_rules plan) arc piece) t ≡ cond (holds piece.over t && holds arc.over t) (told arc (Some piece.value)) []
   held-piece arc piece t =
-      held-common piece.over arc.over t (meet_of piece.over arc.over) (plan.note piece.value arc.time arc.cost) (meets piece.over arc.over t)
+      held-common piece.over arc.over t (meet_of piece.over arc.over) (plan.note piece.value arc.time arc.cost) (meet_of-Meets piece.over arc.over t)
 
   -- all pieces of sent state, along one arc: at most one of them holds the instant
   held-brought : (arc : Arc) (pieces : List (Piece S)) (t : ℕ) → IsChain pieces → held_notes (brought (point_rules plan) pieces arc) t ≡ cond (holds arc.over t) (told arc (value_at pieces t)) []

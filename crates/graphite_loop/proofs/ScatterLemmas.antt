@@ -9,21 +9,13 @@ use Rattle.std.proofs.lemmas.List.Concat.{flat_map-cons}
 use Rattle.graphite_time.specs.declared.TheConstants.{LAST}
 use Rattle.graphite_time.specs.declared.interval.Interval.{Interval}
 use Rattle.graphite_time.specs.Interval.{start_of, end_of}
-use Rattle.graphite_time.specs.Meet.{between, meet_of}
+use Rattle.graphite_time.specs.Meet.{meet_of}
+use Rattle.graphite_time.proofs.MeetLemmas.{meet_of-apart}
 use Rattle.graphite_part.specs.declared.piece.Piece.{Piece}
 use Rattle.graphite_part.specs.Pieces.{IsChain}
 use Rattle.graphite_api.specs.declared.arc.Arc.{Arc}
 use Rattle.graphite_loop.specs.Sweep.{Rules, brought_by, brought}
 use Rattle.graphite_loop.specs.Letters.{letter_to, letters_along, LeavesApart}
-
-none_between : (a b : ℕ) (p : b ≤ LAST) (c : Bool) (e : nat_lt a b ≡ c) → c ≡ false → between a b p c e ≡ None
-none_between a b p true e no_instant = cc
-none_between a b p false e no_instant = refl
-
--- intervals of which one ends before the other starts do not meet
-meet-apart : (x y : Interval) → min x.b y.b ≤ max x.a y.a → meet_of x y ≡ None
-unfolding meet_of
-meet-apart x y h = none_between _ _ _ _ _ (le-ltb (max x.a y.a) (min x.b y.b) h)
 
 module _ {S M : Type 0} (rules : Rules S M) (arc : Arc) where
   none_brought : (pieces : List (Piece S)) → ((k : ℕ) (d : Piece S) → k < length pieces → meet_of (get_or pieces k d).over arc.over ≡ None) → brought rules pieces arc ≡ []
@@ -35,8 +27,8 @@ module _ {S M : Type 0} (rules : Rules S M) (arc : Arc) where
 
   pub letters_along-within : (pieces kept : List (Piece S)) → LeavesApart pieces kept arc.over → letters_along rules kept arc ≡ letters_along rules pieces arc
   letters_along-within pieces kept apart =
-      let early = none_brought apart.before (λ k d less. meet-apart (get_or apart.before k d).over arc.over (omega (arith, apart.before_ends k d less))) in
-      let late = none_brought apart.after (λ k d less. meet-apart (get_or apart.after k d).over arc.over (omega (arith, apart.after_starts k d less))) in
+      let early = none_brought apart.before (λ k d less. meet_of-apart (get_or apart.before k d).over arc.over (omega (arith, apart.before_ends k d less))) in
+      let late = none_brought apart.after (λ k d less. meet_of-apart (get_or apart.after k d).over arc.over (omega (arith, apart.after_starts k d less))) in
       let all : brought rules pieces arc ≡ brought rules kept arc =
       ap (λ ps. brought rules ps arc) apart.parts
       ∙ flat_map-append (brought_by rules arc) apart.before (kept ++ apart.after)

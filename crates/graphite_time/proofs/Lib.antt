@@ -1,2 +1,2 @@
 pub mod LifeLemmas
-mod MeetLemmas
+pub mod MeetLemmas

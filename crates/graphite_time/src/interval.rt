@@ -22,7 +22,7 @@ impl Default for Interval {
 
 impl Interval {
     ghost use Rattle.graphite_time.specs.Interval.{start_of, end_of, holds};
-    ghost use Rattle.graphite_time.specs.Meet.{meet_of};
+    ghost use Rattle.graphite_time.specs.Meet.{interval_between, meet_of};
 
     /// The instants from `a` to `b - 1`. `None` exactly where there are none, or `b` is past
     /// [`LAST`].
@@ -30,6 +30,7 @@ impl Interval {
         ensures proper { IsSome result ↔ ((a < b) × (b ≤ LAST)) }
         ensures start { IfSome result (λ over. start_of over ≡ a) }
         ensures end { IfSome result (λ over. end_of over ≡ b) }
+        ensures between { result ≡ interval_between a b }
     {
         if a < b && b <= LAST {
             Some(Interval { a, b })

@@ -1,3 +1,4 @@
+//! The lives of vertices and edges, as their lifespans.
 ghost use Rattle.std.specs.Prelude.{◌≡◌, ◌↔◌, ◌≤◌, ◌∷◌, [], ℕ, length, IsTrue, IsOk, IfOk};
 ghost use Rattle.graphite_time.specs.Interval.{holds};
 ghost use Rattle.graphite_time.specs.Life.{is_held, lifespan_at, IsLife};

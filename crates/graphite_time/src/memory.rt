@@ -1,9 +1,7 @@
-ghost use Rattle.std.specs.Prelude.{⊤};
-
+//! The one cause of failure that every call may have: out of memory.
 use std::alloc::{AllocError, AllocFailed};
 
-/// Memory could not be had. It may come wherever a call takes memory, and is merged with no other
-/// answer.
+/// Out of memory. It may come wherever a call takes memory, and is merged with no other answer.
 #[derive(Clone, Copy, Debug, PartialEq, Eq)]
 pub struct NoMemory;
 

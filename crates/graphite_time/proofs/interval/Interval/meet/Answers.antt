@@ -1,7 +1,8 @@
+-- The interval between the later start and the earlier end.
+use Rattle.std.proofs.Common.{refl}
+use Rattle.graphite_time.specs.Meet.{meet_of}
 use Rattle.graphite_time.proofs.interval.Interval.meet.Goals as goal
-use Rattle.graphite_time.proofs.MeetLemmas.{is_meet}
 
--- src/interval.rt:66:5
 pub returns-clause-meet : goal.returns-clause-meet
-returns-clause-meet c =
-    is_meet c.args.self c.args.other c.max.result c.min.result c.new.result c.max.ensures c.min.ensures c.new.ensures.proper c.new.ensures.start c.new.ensures.end
+unfolding meet_of
+returns-clause-meet c = rw (c.new.ensures.between, c.max.ensures, c.min.ensures) refl
