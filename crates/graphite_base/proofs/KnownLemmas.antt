@@ -3,9 +3,9 @@ use Rattle.std.proofs.Common.{◌≡◌, ℕ, ◌+◌, ◌-◌, ◌<◌, ◌≤�
 use Rattle.std.proofs.lemmas.List.{take_rest, take-append-le, take-append-drop, take_at, drop-drop}
 use Rattle.std.proofs.Math.Seq.{take-add, take-append-add}
 use Rattle.std.proofs.KnownBytes.{Appends-trans}
-use Rattle.std.specs.Io.KnownBytes.{Appends, Consumes}
+use Rattle.std.specs.Io.KnownBytes.{Appends, Consumes, Keeps, IsAtEnd}
 use Rattle.graphite_base.specs.Causes.{Rose}
-use Rattle.graphite_base.specs.Known.{IsWhole, AppendsPart, TookJust, TookAtMost}
+use Rattle.graphite_base.specs.Known.{IsEmptied, IsWhole, AppendsPart, TookJust, TookAtMost}
 
 -- ---- one loop's step
 
@@ -24,6 +24,20 @@ pub length-gathered : (text into buffer : List ℕ) (count most limit : ℕ) →
     → most + length text ≤ limit → length (text ++ take count into) ≤ limit
 length-gathered text into buffer count most limit short room =
     omega (arith, length-append text (take count into), length-take count into, length-take most buffer)
+
+-- what was consumed after others that kept what was left
+pub Consumes-later : (a b c : Option (List ℕ)) (bs : List ℕ) → Keeps a b → Consumes b c bs → Consumes a c bs
+Consumes-later None b c bs kept taken = tt
+Consumes-later (Some xs) None c bs kept taken = absurd kept
+Consumes-later (Some xs) (Some ys) None bs kept taken = absurd taken
+Consumes-later (Some xs) (Some ys) (Some zs) bs kept taken = sym kept ∙ taken
+
+-- nothing was left, and nothing is, where a read of no bytes came to the end
+pub ended : (a b c : Option (List ℕ)) → Keeps a b → Consumes b c [] → IsAtEnd c → IsAtEnd a × IsEmptied a c
+ended None b c kept taken end = (tt, tt)
+ended (Some xs) None c kept taken end = absurd kept
+ended (Some xs) (Some ys) None kept taken end = absurd taken
+ended (Some xs) (Some ys) (Some zs) kept taken end = (sym kept ∙ taken ∙ end, ap Some end)
 
 -- ---- for callers: several calls one after another
 

@@ -1,5 +1,5 @@
 -- What the ends in memory answer.
-use Rattle.std.specs.Prelude.{ℕ, zero, suc, ◌+◌, ◌-◌, ◌^◌, Bool, ◌==◌, min, List, [], ◌∷◌, length, slice_get}
+use Rattle.std.specs.Prelude.{ℕ, zero, suc, ◌-◌, Option, Bool, ◌==◌, min, List, [], ◌∷◌, length, slice_get}
 use Rattle.std.specs.List.{list_any}
 use Rattle.std.specs.Option.{option_map_or}
 use Rattle.graphite_base.specs.declared.source.Got.{Got}
@@ -16,16 +16,6 @@ got_of (b ∷ bs) most = got.Bytes (min (length (b ∷ bs)) most)
 abbrev pub put_of : ℕ → ℕ → Put
 put_of zero most = put.Failed
 put_of (suc n) most = put.Took (min (suc n) most)
-
--- the count of faults after a read, and after a write: it rises by one at a failure, up to its last value
-abbrev pub faults_after_read : Got → ℕ → ℕ
-faults_after_read got.Failed faults = min (faults + 1) (2 ^ 64 - 1)
-faults_after_read (got.Bytes n) faults = faults
-faults_after_read got.End faults = faults
-
-abbrev pub faults_after_write : Put → ℕ → ℕ
-faults_after_write put.Failed faults = min (faults + 1) (2 ^ 64 - 1)
-faults_after_write (put.Took n) faults = faults
 
 -- whether the call of this number is listed; calls are counted from 1
 abbrev pub is_listed : List ℕ → ℕ → Bool
@@ -60,6 +50,12 @@ pub record Recording : Type 0 where
   pub script : Script
   pub faults : ℕ
 
--- an adapter tells its count of faults alone
-pub record Counting : Type 0 where
+-- a source over a reader of std: what the reader has left, where it is known, and the count of faults
+pub record Reading : Type 0 where
+  pub remaining : Option (List ℕ)
+  pub faults : ℕ
+
+-- a sink over a writer of std: what the writer holds, where it is known, and the count of faults
+pub record Writing : Type 0 where
+  pub contents : Option (List ℕ)
   pub faults : ℕ

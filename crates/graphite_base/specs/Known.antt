@@ -13,9 +13,13 @@ abbrev pub IsWhole : Option (List ℕ) → Option (List ℕ) → List ℕ → Ty
 IsWhole None new bs = ⊤
 IsWhole (Some xs) new bs = (xs ≡ bs) × (new ≡ Some [])
 
--- told bytes grew by a front of bs that is not all of it
+-- told bytes grew by a prefix of bs that is not all of it
 abbrev pub AppendsPart : Option (List ℕ) → Option (List ℕ) → List ℕ → Type 0
 AppendsPart old new bs = (n : ℕ) × (n < length bs) × Appends old new (take n bs)
+
+-- told bytes grew by a prefix of bs, which may be all of it, or nothing
+abbrev pub AppendsSome : Option (List ℕ) → Option (List ℕ) → List ℕ → Type 0
+AppendsSome old new bs = (n : ℕ) × (n ≤ length bs) × Appends old new (take n bs)
 
 -- so many told bytes were taken
 abbrev pub TookJust : Option (List ℕ) → Option (List ℕ) → ℕ → Type 0

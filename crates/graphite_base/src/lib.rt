@@ -15,7 +15,7 @@ mod vec_sink;
 mod writing;
 
 pub use numbers::{number_of, push_number};
-pub use reading::{ReadText, read_text};
+pub use reading::{ReadText, TEXT_LIMIT, read_text};
 pub use script_sink::ScriptSink;
 pub use script_source::ScriptSource;
 pub use sink::{Put, Sink};

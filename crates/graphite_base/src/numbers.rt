@@ -1,3 +1,4 @@
+//! Numbers as they are written: canonical decimals.
 ghost use Rattle.std.specs.Prelude.{◌≡◌, ◌++◌, OnOk, OnErr, decimal};
 ghost use Rattle.graphite_base.specs.Numbers.{number_in, has_leading_zero, digits_after};
 

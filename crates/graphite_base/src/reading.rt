@@ -1,11 +1,15 @@
+//! A whole text from a source.
 ghost use Rattle.std.specs.Prelude.{◌≡◌, ◌+◌, ◌<◌, ◌≤◌, [], IfOk, OnOk, IsErrOf, length};
 ghost use Rattle.std.specs.Io.KnownBytes.{Consumes};
-ghost use Rattle.graphite_base.specs.Causes.{Rose};
+ghost use Rattle.graphite_base.specs.Causes.{Rose, faults_after_text};
 ghost use Rattle.graphite_base.specs.Known.{IsWhole, TookJust, TookAtMost};
 ghost use Rattle.graphite_base.specs.declared.reading.ReadText.TheVariants.{NoMemory};
 
 use crate::{Got, Source};
 use std::alloc::{AllocError, Global};
+
+/// The greatest limit of a text, in bytes: 256 MiB.
+pub const TEXT_LIMIT: usize = 268_435_456;
 
 /// Bytes that one read of a text asks for at most.
 const PIECE: usize = 65_536;
@@ -13,9 +17,10 @@ const PIECE: usize = 65_536;
 /// Why a text was not read.
 #[derive(Clone, Copy, Debug, PartialEq, Eq)]
 pub enum ReadText {
-    /// A read failed, and a fault was counted.
+    /// A read failed before the end, and before more bytes came than the limit allows. One fault was
+    /// counted.
     Failed,
-    /// More bytes came than the limit allows.
+    /// More bytes came than the limit allows, before the end and before a read failed.
     TooLong,
     /// Memory could not be had.
     NoMemory,
@@ -29,14 +34,15 @@ impl From<AllocError> for ReadText {
     }
 }
 
-/// All bytes of a source, up to its end. `limit` is a number of bytes, and no more than one byte past
-/// it is taken.
+/// All bytes of a source, up to its end. `limit` is a number of bytes, at most [`TEXT_LIMIT`], and no
+/// more than one byte past it is taken. Nothing is read after a read that failed: the count of faults
+/// rises by one at [`ReadText::Failed`], and else stays.
 pub fn read_text<S: Source>(
     alloc: Global,
     source: &mut S,
     limit: usize,
 ) -> Result<Vec<u8>, ReadText>
-    requires { limit ≤ 268_435_456 }
+    requires { limit ≤ TEXT_LIMIT }
     ensures whole { IfOk result (λ text. IsWhole (S.left source.old) (S.left source.new) text.items) }
     ensures within { IfOk result (λ text. length text.items ≤ limit) }
     ensures too_long { IsErrOf result ReadText.TooLong
@@ -44,6 +50,7 @@ pub fn read_text<S: Source>(
     ensures failed { IsErrOf result ReadText.Failed → Rose (S.faults source.old) (S.faults source.new) }
     ensures failed_within { IsErrOf result ReadText.Failed
         → TookAtMost (S.left source.old) (S.left source.new) limit }
+    ensures counted { S.faults source.new ≡ faults_after_text result (S.faults source.old) }
 
     // Whatever the answer is.
     ensures at_most { TookAtMost (S.left source.old) (S.left source.new) (limit + 1) }
@@ -62,7 +69,7 @@ fn gather<S: Source>(
     text: &mut Vec<u8>,
     limit: usize,
 ) -> Result<(), ReadText>
-    requires limit { limit ≤ 268_435_456 }
+    requires limit { limit ≤ TEXT_LIMIT }
     requires buffer { 0 < length buffer.old }
     requires text { text.old.items ≡ [] }
     ensures whole { OnOk result (IsWhole (S.left source.old) (S.left source.new) text.new.items) }
@@ -72,6 +79,7 @@ fn gather<S: Source>(
     ensures failed { IsErrOf result ReadText.Failed → Rose (S.faults source.old) (S.faults source.new) }
     ensures failed_within { IsErrOf result ReadText.Failed
         → TookAtMost (S.left source.old) (S.left source.new) limit }
+    ensures counted { S.faults source.new ≡ faults_after_text result (S.faults source.old) }
     ensures at_most { TookAtMost (S.left source.old) (S.left source.new) (limit + 1) }
     ensures later { S.faults source.old ≤ S.faults source.new }
 {

@@ -1,3 +1,4 @@
+//! What a source or a sink is told to do at each call.
 ghost use Rattle.std.specs.Prelude.{◌≡◌, ◌+◌, ◌-◌, ◌^◌, ◌<◌, ◌≤◌, IfOk, IfSome, All, if◌then◌else◌, min};
 ghost use Rattle.graphite_base.specs.Ends.{is_listed, most_at};
 

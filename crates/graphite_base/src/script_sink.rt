@@ -1,6 +1,8 @@
+//! A sink that takes and fails as it is told.
 ghost use Rattle.std.specs.Prelude.{◌≡◌, ◌+◌, ◌-◌, ◌^◌, ◌<◌, ◌≤◌, ℕ, List, [], Option, Some, IfOk, All, if◌then◌else◌, min, length};
 ghost use Rattle.graphite_base.specs.Answers.{PutFits, PutMoves};
-ghost use Rattle.graphite_base.specs.Ends.{put_of, is_listed, most_at, faults_after_write};
+ghost use Rattle.graphite_base.specs.Causes.{faults_after_write};
+ghost use Rattle.graphite_base.specs.Ends.{put_of, is_listed, most_at};
 
 use crate::script::Script;
 use crate::vec_sink::append_fitting;
@@ -80,7 +82,7 @@ impl Sink for ScriptSink {
         ensures takes { self.new.script.pieces ≡ self.old.script.pieces }
         ensures fails { self.new.script.fails ≡ self.old.script.fails }
         ensures room { self.new.room ≡ self.old.room }
-        ensures faults { self.new.faults ≡ faults_after_write result self.old.faults }
+        ensures counted { self.new.faults ≡ faults_after_write result self.old.faults }
         ensures fits { PutFits result piece.now }
         ensures moves { PutMoves (Some self.old.bytes) (Some self.new.bytes) result piece.now }
         ensures later { self.old.faults ≤ self.new.faults }

@@ -1,6 +1,8 @@
+//! A source that gives and fails as it is told.
 ghost use Rattle.std.specs.Prelude.{◌≡◌, ◌+◌, ◌-◌, ◌^◌, ◌<◌, ◌≤◌, ℕ, List, Option, Some, IfOk, All, if◌then◌else◌, min, length};
 ghost use Rattle.graphite_base.specs.Answers.{GotFits, GotMoves};
-ghost use Rattle.graphite_base.specs.Ends.{got_of, is_listed, most_at, faults_after_read};
+ghost use Rattle.graphite_base.specs.Causes.{faults_after_read};
+ghost use Rattle.graphite_base.specs.Ends.{got_of, is_listed, most_at};
 
 use crate::script::Script;
 use crate::{Got, Source};
@@ -69,7 +71,7 @@ impl Source for ScriptSource {
         ensures calls { self.new.script.calls ≡ min (self.old.script.calls + 1) (2 ^ 64 - 1) }
         ensures cuts { self.new.script.pieces ≡ self.old.script.pieces }
         ensures fails { self.new.script.fails ≡ self.old.script.fails }
-        ensures faults { self.new.faults ≡ faults_after_read result self.old.faults }
+        ensures counted { self.new.faults ≡ faults_after_read result self.old.faults }
         ensures fits { GotFits result into.old }
         ensures moves { GotMoves (Some self.old.left) (Some self.new.left) result into.new }
         ensures later { self.old.faults ≤ self.new.faults }

@@ -1,5 +1,6 @@
+//! Where bytes go to.
 ghost use Rattle.std.specs.Prelude.{◌≡◌, ◌<◌, ◌≤◌, ℕ, List, Option, length};
-ghost use Rattle.graphite_base.specs.Causes.{Rose};
+ghost use Rattle.graphite_base.specs.Causes.{Rose, faults_after_write};
 ghost use Rattle.graphite_base.specs.Answers.{PutFits, PutMoves};
 
 /// What one write answers.
@@ -19,11 +20,12 @@ pub trait Sink {
     /// How many writes have failed. The count stays at the last value of a `u64`.
     ghost faults: { Self → ℕ };
 
-    /// Takes bytes from the front of `piece`.
+    /// Takes the first bytes of `piece`. One fault is counted at [`Put::Failed`], and none else.
     fn write(&mut self, piece: &[u8]) -> Put
         requires { 0 < length piece.now }
         ensures fits { PutFits result piece.now }
         ensures moves { PutMoves (written self.old) (written self.new) result piece.now }
+        ensures counted { faults self.new ≡ faults_after_write result (faults self.old) }
         ensures later { faults self.old ≤ faults self.new }
         ensures failed { result ≡ Put.Failed → Rose (faults self.old) (faults self.new) };
 }

@@ -1,5 +1,6 @@
+//! A source over a slice.
 ghost use Rattle.std.specs.Prelude.{◌≡◌, ◌<◌, ◌≤◌, ℕ, List, Option, Some, length, take, drop};
-ghost use Rattle.graphite_base.specs.Causes.{Rose};
+ghost use Rattle.graphite_base.specs.Causes.{Rose, faults_after_read};
 ghost use Rattle.graphite_base.specs.Answers.{GotFits, GotMoves};
 ghost use Rattle.graphite_base.specs.Ends.{got_of};
 
@@ -41,6 +42,7 @@ impl<'a> Source for SliceSource<'a> {
         ensures answer { result ≡ got_of self.old (length into.old) }
         ensures fits { GotFits result into.old }
         ensures moves { GotMoves (Some self.old) (Some self.new) result into.new }
+        ensures counted { 0 ≡ faults_after_read result 0 }
         ensures later { 0 ≤ 0 }
         ensures failed { result ≡ Got.Failed → Rose 0 0 }
     {

@@ -1,5 +1,6 @@
+//! Where bytes come from.
 ghost use Rattle.std.specs.Prelude.{◌≡◌, ◌<◌, ◌≤◌, ℕ, List, Option, length};
-ghost use Rattle.graphite_base.specs.Causes.{Rose};
+ghost use Rattle.graphite_base.specs.Causes.{Rose, faults_after_read};
 ghost use Rattle.graphite_base.specs.Answers.{GotFits, GotMoves};
 
 /// What one read answers.
@@ -21,11 +22,13 @@ pub trait Source {
     /// How many reads have failed. The count stays at the last value of a `u64`.
     ghost faults: { Self → ℕ };
 
-    /// Moves the next bytes to the front of `into`.
+    /// Moves the next bytes to the start of `into`. One fault is counted at [`Got::Failed`], and none
+    /// else.
     fn read(&mut self, into: &mut [u8]) -> Got
         requires { 0 < length into.old }
         ensures fits { GotFits result into.old }
         ensures moves { GotMoves (left self.old) (left self.new) result into.new }
+        ensures counted { faults self.new ≡ faults_after_read result (faults self.old) }
         ensures later { faults self.old ≤ faults self.new }
         ensures failed { result ≡ Got.Failed → Rose (faults self.old) (faults self.new) };
 }

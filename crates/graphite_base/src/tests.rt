@@ -1,6 +1,9 @@
+//! Ends in memory and of the system, whole texts, and numbers.
 use super::*;
+use std::alloc::Global;
 use std::io;
 use std::io::{Error, ErrorKind, Read, Write};
+use std::process::Abort;
 use std::test::Fail;
 
 #[test]
@@ -118,6 +121,104 @@ fn a_reader_is_a_source(rt: HostRuntime) -> Result<(), Fail> {
     let failed = read_text(alloc, &mut worn, 3);
     assert!(rt; matches!(&failed, Err(ReadText::Failed)));
     Ok(())
+}
+
+// A reader that gives its bytes, and then fails with one kind of error. It counts its calls.
+#[derive(Drop)]
+struct Torn<'a> {
+    bytes: &'a [u8],
+    kind: ErrorKind,
+    calls: u32,
+}
+
+impl<'a> Read for Torn<'a> {
+    fn read(&mut self, buf: &mut [u8]) -> io::Result<usize> {
+        self.calls = self.calls.saturating_add(1);
+        if self.bytes.is_empty() {
+            return Err(Error::new(self.kind, "torn"));
+        }
+        self.bytes.read(buf)
+    }
+}
+
+// How often a reader is called until its text has failed.
+fn calls_of_a_torn_text(rt: &impl Abort, alloc: Global, bytes: &[u8], kind: ErrorKind) -> u32 {
+    let mut reader = Torn {
+        bytes,
+        kind,
+        calls: 0,
+    };
+    let mut source = StdSource::new(&mut reader);
+    let failed = read_text(alloc, &mut source, 100);
+    assert!(rt; matches!(&failed, Err(ReadText::Failed)));
+    drop(source);
+    reader.calls
+}
+
+#[test]
+fn only_an_interrupted_read_is_tried_again(rt: HostRuntime) {
+    let alloc = rt.alloc();
+    for (kind, calls) in [
+        (ErrorKind::Interrupted, 1_026),
+        (ErrorKind::ConnectionReset, 2),
+        (ErrorKind::UnexpectedEof, 2),
+        (ErrorKind::WouldBlock, 2),
+    ] {
+        assert_eq!(rt; calls_of_a_torn_text(&rt, alloc, b"ab", kind), calls);
+    }
+}
+
+// A writer that takes so many bytes, one in a call, and then fails, or takes none. It counts its
+// calls.
+#[derive(Drop)]
+struct Clogged {
+    room: u32,
+    kind: Option<ErrorKind>,
+    calls: u32,
+}
+
+impl Write for Clogged {
+    fn write(&mut self, buf: &[u8]) -> io::Result<usize> {
+        self.calls = self.calls.saturating_add(1);
+        if self.room > 0 {
+            self.room -= 1;
+            return Ok(buf.len().min(1));
+        }
+        match self.kind {
+            Some(kind) => Err(Error::new(kind, "clogged")),
+            None => Ok(0),
+        }
+    }
+
+    fn flush(&mut self) -> io::Result<()> {
+        Ok(())
+    }
+}
+
+// How often a writer is called until three bytes have failed.
+fn calls_of_a_clogged_piece(rt: &impl Abort, kind: Option<ErrorKind>) -> u32 {
+    let mut writer = Clogged {
+        room: 2,
+        kind,
+        calls: 0,
+    };
+    let mut sink = StdSink::new(&mut writer);
+    assert_eq!(rt; write_all(&mut sink, b"abc"), Err(WriteFailed));
+    drop(sink);
+    writer.calls
+}
+
+#[test]
+fn a_write_that_fails_or_takes_nothing_is_not_tried_again(rt: HostRuntime) {
+    assert_eq!(rt;
+        calls_of_a_clogged_piece(&rt, Some(ErrorKind::BrokenPipe)),
+        3
+    );
+    assert_eq!(rt;
+        calls_of_a_clogged_piece(&rt, Some(ErrorKind::Interrupted)),
+        3
+    );
+    assert_eq!(rt; calls_of_a_clogged_piece(&rt, None), 3);
 }
 
 // A writer that takes all bytes, and never brings them out.

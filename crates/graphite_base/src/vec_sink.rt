@@ -1,6 +1,8 @@
+//! A sink that holds its bytes.
 ghost use Rattle.std.specs.Prelude.{◌≡◌, ◌-◌, ◌<◌, ◌≤◌, ℕ, List, [], Option, Some, IfOk, length, vec_len, vec_capacity};
 ghost use Rattle.graphite_base.specs.Answers.{PutFits, PutMoves};
-ghost use Rattle.graphite_base.specs.Ends.{put_of, faults_after_write};
+ghost use Rattle.graphite_base.specs.Causes.{faults_after_write};
+ghost use Rattle.graphite_base.specs.Ends.{put_of};
 
 use crate::{Put, Sink};
 use graphite_time::NoMemory;
@@ -59,7 +61,7 @@ impl Sink for VecSink {
         requires { 0 < length piece.now }
         ensures answer { result ≡ put_of (self.old.room - length self.old.bytes) (length piece.now) }
         ensures room { self.new.room ≡ self.old.room }
-        ensures faults { self.new.faults ≡ faults_after_write result self.old.faults }
+        ensures counted { self.new.faults ≡ faults_after_write result self.old.faults }
         ensures fits { PutFits result piece.now }
         ensures moves { PutMoves (Some self.old.bytes) (Some self.new.bytes) result piece.now }
         ensures later { self.old.faults ≤ self.new.faults }

@@ -1,6 +1,7 @@
+//! Whole pieces into a sink.
 ghost use Rattle.std.specs.Prelude.{◌≡◌, ◌≤◌, [], OnOk, OnErr, length};
 ghost use Rattle.std.specs.Io.KnownBytes.{Appends};
-ghost use Rattle.graphite_base.specs.Causes.{Rose};
+ghost use Rattle.graphite_base.specs.Causes.{Rose, one_more};
 ghost use Rattle.graphite_base.specs.Known.{AppendsPart};
 
 use crate::{Put, Sink};
@@ -9,7 +10,8 @@ use crate::{Put, Sink};
 #[derive(Clone, Copy, Debug, PartialEq, Eq)]
 pub struct WriteFailed;
 
-/// Writes all bytes of `piece`, or a part of it before the sink's first failure. An empty piece
+/// Writes all bytes of `piece`, or a part of it before the sink's first failure, after which nothing
+/// is written. The count of faults rises by one at [`WriteFailed`], and else stays. An empty piece
 /// leaves the sink as it is. It takes no memory.
 pub fn write_all<K: Sink>(sink: &mut K, piece: &[u8]) -> Result<(), WriteFailed>
     ensures done { OnOk result (Appends (K.written sink.old) (K.written sink.new) piece.now) }
@@ -17,6 +19,8 @@ pub fn write_all<K: Sink>(sink: &mut K, piece: &[u8]) -> Result<(), WriteFailed>
     ensures empty { piece.now ≡ [] → sink.new ≡ sink.old }
     ensures later { K.faults sink.old ≤ K.faults sink.new }
     ensures failed { OnErr result (Rose (K.faults sink.old) (K.faults sink.new)) }
+    ensures one_fault { OnErr result (K.faults sink.new ≡ one_more (K.faults sink.old)) }
+    ensures no_fault { OnOk result (K.faults sink.new ≡ K.faults sink.old) }
 {
     let mut done = 0;
     while done < piece.len() {

@@ -1,4 +1,4 @@
-use Rattle.std.proofs.Common.{◌-◌, ◌≤◌, length, arith}
+use Rattle.std.proofs.Common.{◌-◌, ◌≤◌, ◌∙◌, length, arith}
 use Rattle.graphite_base.proofs.KnownLemmas.{Appends-more, length-rest}
 use Rattle.graphite_base.proofs.writing.write_all.Goals as goal
 
@@ -9,6 +9,6 @@ loop-done-preserved g c =
     record {
       within = omega arith;
       written = Appends-more _ _ _ c.loop-done.done c.in-Took.count c.args.piece.now c.loop-done.invariant.written c.in-Took.ensures.moves;
-      later = omega arith;
+      faults = c.in-Took.ensures.counted ∙ c.loop-done.invariant.faults;
       untouched = λ none. absurd (omega (arith, none, c.in-Took.ensures.fits));
     }
