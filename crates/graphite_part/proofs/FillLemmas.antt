@@ -1,10 +1,10 @@
 -- What a push onto a chain of pieces makes.
-use Rattle.std.proofs.Common.{◌≡◌, ℕ, suc, ◌+◌, ◌-◌, ◌<◌, ◌≤◌, true, false, List, [], ◌∷◌, ◌++◌, length, get_or, take, Option, Some, None, cond, refl, sym, ◌∙◌, ap, subst, arith, ⊎_elim, slice_get, IfSome}
+use Rattle.std.proofs.Common.{◌≡◌, ℕ, suc, ◌+◌, ◌-◌, ◌<◌, ◌≤◌, true, false, List, [], ◌∷◌, ◌++◌, map, length, get_or, take, Option, Some, None, option_map, cond, refl, sym, ◌∙◌, ap, subst, arith, ⊎_elim, slice_get, IfSome}
 use Rattle.std.proofs.Math.ListN.{set}
 use Rattle.std.proofs.lemmas.Bool.{cond-false, cases_lt}
 use Rattle.std.proofs.lemmas.Bool.Decides.{nat_tests}
-use Rattle.std.proofs.lemmas.Option.{none-some, slice_get-get_or, slice_get_within, get_or_from_slice_get}
-use Rattle.std.proofs.lemmas.List.{take_all, take_more, set_split, drop_all}
+use Rattle.std.proofs.lemmas.Option.{none-some, same_Some, slice_get-map, slice_get-get_or, slice_get_within, get_or_from_slice_get}
+use Rattle.std.proofs.lemmas.List.{map-append, map-set, length-map, take_all, take_more, set_split, drop_all}
 use Rattle.graphite_time.specs.declared.interval.Interval.{Interval}
 use Rattle.graphite_time.specs.Interval.{start_of, end_of, holds}
 use Rattle.graphite_time.proofs.LifeLemmas.{holds-true, holds_before, holds_after}
@@ -148,12 +148,36 @@ Lengthens-made pieces last over value None is_last touches same start end = tt
 Lengthens-made pieces last over value (Some longer) is_last touches same start end =
     record { last = last; is_last = is_last; touches = touches; same = same; start = start; end = end }
 
--- the same, of a list whose length is known by another name
-pub Pushed-longer_at : {X : Type 0} (pieces seen : List (Piece X)) (n : ℕ) (over : Interval) (value : X) (longer : Interval) → IsChain pieces → seen ≡ pieces → n ≡ length pieces → Lengthens seen over value longer → Pushed pieces (set pieces (n - 1) (record { over = longer; value = value })) over value
-Pushed-longer_at pieces seen n over value longer chain same len by =
-    subst (λ m. Pushed pieces (set pieces (m - 1) (record { over = longer; value = value })) over value) (sym len)
-    (Pushed-longer pieces over value longer chain (subst (λ xs. Lengthens xs over value longer) same by))
+-- ---- things that are seen as pieces
 
-pub Pushed-new_at : {X : Type 0} (pieces seen : List (Piece X)) (over : Interval) (value : X) → IsChain pieces → last_end pieces ≤ start_of over → seen ≡ pieces → (EndsWith seen (start_of over) value → ⊥) → Pushed pieces (pieces ++ record { over = over; value = value } ∷ []) over value
-Pushed-new_at pieces seen over value chain later same apart =
-    Pushed-new pieces over value chain later (subst (λ xs. EndsWith xs (start_of over) value → ⊥) same apart)
+-- the last one of a list is seen as the last piece
+last-map : {X Y : Type 0} (f : X → Y) (xs : List X) → slice_get (map f xs) (length (map f xs) - 1) ≡ option_map f (slice_get xs (length xs - 1))
+last-map f xs = ap (λ n. slice_get (map f xs) (n - 1)) (length-map xs f) ∙ slice_get-map f xs (length xs - 1)
+
+pub last-seen : {X Y : Type 0} (f : X → Y) (xs : List X) (x : X) → slice_get xs (length xs - 1) ≡ Some x → slice_get (map f xs) (length (map f xs) - 1) ≡ Some (f x)
+last-seen f xs x e = last-map f xs ∙ ap (option_map f) e
+
+pub none-seen : {X Y : Type 0} (f : X → Y) (xs : List X) → slice_get xs (length xs - 1) ≡ None → slice_get (map f xs) (length (map f xs) - 1) ≡ None
+none-seen f xs e = last-map f xs ∙ ap (option_map f) e
+
+-- one more at the end
+pub Pushed-seen_new : {X V : Type 0} (f : X → Piece V) (xs seen : List X) (x : X) → IsChain (map f xs) → last_end (map f xs) ≤ start_of (f x).over → seen ≡ xs → (EndsWith (map f seen) (start_of (f x).over) (f x).value → ⊥)
+    → Pushed (map f xs) (map f (xs ++ x ∷ [])) (f x).over (f x).value
+Pushed-seen_new f xs seen x chain later same apart =
+    subst (λ ys. Pushed (map f xs) ys (f x).over (f x).value) (sym (map-append f xs (x ∷ [])))
+    (Pushed-new (map f xs) (f x).over (f x).value chain later (subst (λ ys. EndsWith (map f ys) (start_of (f x).over) (f x).value → ⊥) same apart))
+
+-- the last one lengthened in its place
+pub Pushed-seen_longer : {X V : Type 0} (f : X → Piece V) (xs seen : List X) (n : ℕ) (last y : X) (next : Piece V) (longer : Interval) → IsChain (map f xs) → seen ≡ xs → n ≡ length xs → last ≡ get_or xs (n - 1) last
+    → f y ≡ record { over = longer; value = (f last).value } → Lengthens (map f seen) next.over next.value longer → Pushed (map f xs) (map f (set xs (n - 1) y)) next.over next.value
+Pushed-seen_longer f xs seen n last y next longer chain same len is_last made by =
+    let by' : Lengthens (map f xs) next.over next.value longer = subst (λ ys. Lengthens (map f ys) next.over next.value longer) same by in
+    let within : length xs - 1 < length xs = omega (arith, slice_get_within (map f xs) (length (map f xs) - 1) by'.last by'.is_last, length-map xs f) in
+    let here : slice_get xs (length xs - 1) ≡ Some last = slice_get-get_or xs (length xs - 1) last within ∙ ap Some (sym (subst (λ m. last ≡ get_or xs (m - 1) last) len is_last)) in
+    let seen_last : slice_get (map f xs) (length (map f xs) - 1) ≡ Some (f last) = last-seen f xs last here in
+    let value : (f last).value ≡ next.value = ap (λ (piece : Piece _). piece.value) (same_Some _ _ (sym seen_last ∙ by'.is_last)) ∙ by'.same in
+    let new : f y ≡ record { over = longer; value = next.value } = made ∙ ap (λ v. record { over = longer; value = v }) value in
+    let place : n - 1 ≡ length (map f xs) - 1 = ap (λ m. m - 1) (len ∙ sym (length-map xs f)) in
+    let all : map f (set xs (n - 1) y) ≡ set (map f xs) (length (map f xs) - 1) (record { over = longer; value = next.value })
+    = map-set f xs (n - 1) y ∙ ap (λ m. set (map f xs) m (f y)) place ∙ ap (set (map f xs) (length (map f xs) - 1)) new in
+    subst (λ ys. Pushed (map f xs) ys next.over next.value) (sym all) (Pushed-longer (map f xs) next.over next.value longer chain by')

@@ -1,3 +1,4 @@
+//! The calls of a partition that take or make another one, and `cut`.
 ghost use Rattle.std.specs.Prelude.{◌≡◌, ℕ, IfOk, OnOk, OnErr};
 ghost use Rattle.std.specs.Option.{ForSome};
 ghost use Rattle.graphite_part.specs.Calls.{cut_out, zipped, AreAnswers};

@@ -111,8 +111,8 @@ fn pass(times: &[u64], from: usize, t: u64) -> usize
     passed
 }
 
-/// The time at this place, or `until` where that is earlier or there is none.
-fn time_at(times: &[u64], place: usize, until: u64) -> u64
+/// The instant at this place of a list, or `until` where that is earlier or there is none.
+pub fn time_at(times: &[u64], place: usize, until: u64) -> u64
     ensures { result ≡ min (slice_index_or times.now place until) until }
 {
     times.get(place).map_or(until, |time| until.min(*time))

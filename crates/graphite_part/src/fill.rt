@@ -1,11 +1,10 @@
 //! Lists of pieces that are written from the first instant to the last.
-ghost use Rattle.std.specs.Prelude.{◌≡◌, ◌<◌, ◌≤◌, IfSome, IfNone, OnOk, OnErr};
+ghost use Rattle.std.specs.Prelude.{◌≡◌, ◌≤◌, OnOk, OnErr};
 ghost use Rattle.graphite_time.specs.Interval.{start_of};
 ghost use Rattle.graphite_part.specs.Pieces.{value_at, IsChain, last_end};
-ghost use Rattle.graphite_part.specs.Fills.{EndsWith, Filled, Lengthens, Pushed};
+ghost use Rattle.graphite_part.specs.Fills.{Filled, Pushed};
 
-use crate::plain::is_same;
-use crate::{Piece, Plain};
+use crate::{Piece, Plain, append};
 use graphite_time::{Interval, NoMemory};
 
 /// Adds a piece at the end. Where it touches the last one with the same value, that is lengthened.
@@ -19,29 +18,7 @@ pub(crate) fn push_piece<T: Plain>(
     ensures ok { OnOk result (Pushed pieces.old.items pieces.new.items over value) }
     ensures err { OnErr result (pieces.new.items ≡ pieces.old.items) }
 {
-    if let Some(longer) = lengthened(pieces, over, value) {
-        let last = pieces.len() - 1;
-        pieces[last] = Piece {
-            over: longer,
-            value,
-        };
-        return Ok(());
-    }
-    pieces.push(Piece { over, value })?;
-    Ok(())
-}
-
-/// The interval of the last piece together with `over`, where that piece touches `over` and has
-/// its value.
-fn lengthened<T: Plain>(pieces: &[Piece<T>], over: Interval, value: T) -> Option<Interval>
-    ensures apart { IfNone result (EndsWith pieces.now (start_of over) value → ⊥) }
-    ensures touching { IfSome result (Lengthens pieces.now over value) }
-{
-    let last = pieces.last()?;
-    if last.over.b() == over.a() && is_same(last.value, value) {
-        return Interval::new(last.over.a(), over.b());
-    }
-    None
+    append(pieces, Piece { over, value })
 }
 
 /// Copies what the pieces have from one instant up to another to the end of `out`.

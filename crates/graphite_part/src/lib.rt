@@ -5,6 +5,7 @@ mod calls;
 mod counts;
 mod cut;
 mod fill;
+mod lasting;
 mod laws;
 mod map;
 mod partition;
@@ -15,6 +16,8 @@ mod plain;
 mod tests;
 mod zip;
 
+pub use counts::time_at;
+pub use lasting::{Lasting, append};
 pub use laws::{answers_are_runs, chain_is_unique, pieces_are_mapped_runs, pieces_are_runs};
 pub use partition::Partition;
 pub use piece::Piece;

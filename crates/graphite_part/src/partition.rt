@@ -1,3 +1,4 @@
+//! Partitions: a value at each instant, or nothing.
 ghost use Rattle.std.specs.Prelude.{◌≡◌, ◌≤◌, true, [], ◌∷◌, map, IfOk, OnOk, OnErr};
 ghost use Rattle.graphite_time.specs.Interval.{start_of, end_of};
 ghost use Rattle.graphite_part.specs.Pieces.{value_at, value_on, painted, last_end, piece_on, IsChain, AreRuns};

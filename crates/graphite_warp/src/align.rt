@@ -1,3 +1,4 @@
+//! Time-warp: the triples of states and messages.
 ghost use Rattle.std.specs.Prelude.{◌≡◌, ◌≤◌, ◌++◌, [], All, Some, map, IfOk, OnOk};
 ghost use Rattle.std.specs.List.Sorted.{IsNonDecreasing, IsPermutation};
 ghost use Rattle.graphite_time.specs.Interval.{start_of, end_of};
@@ -5,11 +6,10 @@ ghost use Rattle.graphite_part.specs.Pieces.{value_at, last_end, IsChain, AreRun
 ghost use Rattle.graphite_part.specs.Fills.{Filled};
 ghost use Rattle.graphite_warp.specs.Warp.{warped, IsSteady};
 
-use crate::append::push_triple;
 use crate::ends::{next_end, sorted_ends};
 use crate::ordered::Ordered;
 use crate::{Message, Touch, Triple};
-use graphite_part::{Partition, Piece, Plain};
+use graphite_part::{Partition, Piece, Plain, append};
 use graphite_time::{Interval, NoMemory};
 use std::alloc::Global;
 
@@ -101,6 +101,5 @@ fn push_part<S: Plain, M: Plain>(
     if !touch.asks_for(&group) {
         return Ok(());
     }
-    push_triple(out, over, state, group)?;
-    Ok(())
+    append(out, Triple::new(over, state, group))
 }

@@ -1,9 +1,10 @@
 //! The instants where messages start and end.
-ghost use Rattle.std.specs.Prelude.{◌≡◌, ◌<◌, ◌≤◌, ◌++◌, All, map, min, slice_index_or, IfOk};
+ghost use Rattle.std.specs.Prelude.{◌≡◌, ◌<◌, ◌≤◌, ◌++◌, All, map, IfOk};
 ghost use Rattle.std.specs.List.Sorted.{IsNonDecreasing, IsPermutation};
 ghost use Rattle.graphite_time.specs.Interval.{start_of, end_of};
 
 use crate::Message;
+use graphite_part::time_at;
 use graphite_time::NoMemory;
 use std::alloc::Global;
 
@@ -39,11 +40,4 @@ pub(crate) fn next_end(ends: &[u64], at: u64, until: u64) -> u64
 {
     let place = ends.partition_point(|end| *end <= at);
     time_at(ends, place, until)
-}
-
-/// The time at this place, or `until` where that is earlier or there is none.
-fn time_at(times: &[u64], place: usize, until: u64) -> u64
-    ensures { result ≡ min (slice_index_or times.now place until) until }
-{
-    times.get(place).map_or(until, |time| until.min(*time))
 }

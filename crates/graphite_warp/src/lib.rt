@@ -2,7 +2,6 @@
 #![tactic(auto)]
 
 mod align;
-mod append;
 mod ends;
 mod laws;
 mod message;

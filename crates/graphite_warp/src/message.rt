@@ -1,3 +1,4 @@
+//! A note over an interval.
 use graphite_time::Interval;
 
 /// A note that holds at the instants of an interval.

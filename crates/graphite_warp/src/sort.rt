@@ -1,3 +1,4 @@
+//! Lists of notes in rising order.
 ghost use Rattle.std.specs.Prelude.{◌≡◌};
 ghost use Rattle.graphite_warp.specs.Sorted.{sorted};
 

@@ -1,3 +1,4 @@
+//! Which instants a warp is asked for.
 ghost use Rattle.std.specs.Prelude.{◌≡◌};
 ghost use Rattle.graphite_warp.specs.Warp.{asks_for};
 

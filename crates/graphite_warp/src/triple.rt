@@ -1,6 +1,7 @@
+//! What a warp gives: an interval, with the state and the notes at each of its instants.
 ghost use Rattle.std.specs.Prelude.{◌≡◌, ◌↔◌, IsTrue};
 
-use graphite_part::{Plain, is_same};
+use graphite_part::{Lasting, Plain, is_same};
 use graphite_time::Interval;
 use std::marker::Model;
 
@@ -48,12 +49,25 @@ impl<S: Plain, M: Plain> Triple<S, M> {
     {
         &self.group
     }
+}
 
-    /// Whether these are its state and its notes.
-    pub(crate) fn has(&self, state: S, group: &[M]) -> bool
-        ensures { IsTrue result ↔ (self.now.value ≡ (state, group.now)) }
-    {
-        is_same(self.state, state) && are_same(&self.group, group)
+impl<S: Plain, M: Plain> Lasting for Triple<S, M> {
+    ghost use Rattle.std.specs.Prelude.{List};
+
+    ghost Value = { S × List M };
+
+    ghost piece = { λ triple. triple };
+
+    fn interval(&self) -> Interval {
+        self.over
+    }
+
+    fn has_value_of(&self, other: &Self) -> bool {
+        is_same(self.state, other.state) && are_same(&self.group, &other.group)
+    }
+
+    fn set_interval(&mut self, over: Interval) {
+        self.over = over;
     }
 }
 
