@@ -4,7 +4,7 @@ use Rattle.std.proofs.lemmas.Bool.{and_parts, or_parts, or_from, not-false}
 use Rattle.graphite_text.specs.Lines.{TextLine, lines_of, fields_of}
 use Rattle.graphite_text.specs.Forms.{Shape, Form, is_line, is_skipped, line_form, shape_form, numbers_form, shape_of, has_names, form_of}
 use Rattle.graphite_text.specs.Graph.{PlainGraph}
-use Rattle.graphite_text.specs.Reading.{Known, Accepted, reading_from, goes_on, after_line, checked, least_broken, first_broken, record_rules, breaks_line, breaks_header, is_header, is_no_header, breaks_order, breaks_new_name, breaks_declared, breaks_ends, breaks_owner, breaks_apart, breaks_travel, breaks_limit, known_after, known_with}
+use Rattle.graphite_text.specs.Reading.{Known, Accepted, reading_from, goes_on, after_line, checked, least_broken, first_broken, record_rules, breaks_line, breaks_header, is_header, is_wrong_start, breaks_order, breaks_new_name, breaks_declared, breaks_ends, breaks_owner, breaks_apart, breaks_travel, breaks_limit, known_after, known_with}
 use Rattle.graphite_text.specs.Step.{broken_by_form, broken_by_answer}
 use Rattle.graphite_text.specs.Canonical.{words_of, text_of, form_line}
 use Rattle.graphite_text.proofs.ReadingLemmas.{least_broken-record, known_after-record}
@@ -48,7 +48,7 @@ no_rule_broken known form early limit =
 
 -- the record is a header out of place, or the first record is none
 abbrev pub is_misplaced : Known → Form → Bool
-is_misplaced known form = if known.started then is_header (words_of form) else is_no_header (words_of form)
+is_misplaced known form = if known.started then is_header (words_of form) else is_wrong_start (words_of form)
 
 -- ---- a line that is accepted and not skipped
 

@@ -1,9 +1,9 @@
 -- What it is for a test to pass at each instant of a span.
-use Rattle.std.proofs.Common.{◌≡◌, refl, sym, ap, subst, ◌∙◌, ℕ, zero, suc, ◌+◌, ◌-◌, ◌<◌, ◌≤◌, arith, Bool, true, false, ◌&&◌, inl, inr}
+use Rattle.std.proofs.Common.{◌≡◌, refl, ap, subst, ◌∙◌, ℕ, zero, suc, ◌+◌, ◌-◌, ◌<◌, ◌≤◌, arith, Bool, true, false, ◌&&◌, inl, inr}
 use Rattle.std.proofs.lemmas.Bool.{false≢true}
 use Rattle.std.proofs.Math.Nat.{eq-or-lt_of_le}
 use Rattle.graphite_time.specs.declared.interval.Interval.{Interval}
-use Rattle.graphite_time.specs.Interval.{start_of, end_of, holds}
+use Rattle.graphite_time.specs.Interval.{holds}
 use Rattle.graphite_time.proofs.LifeLemmas.{holds-true, holds-from}
 use Rattle.graphite_text.specs.Reading.{at_each, throughout}
 use Rattle.graphite_text.specs.Spans.{as_span}

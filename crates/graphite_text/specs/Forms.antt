@@ -4,6 +4,8 @@ use Rattle.std.specs.Str.{bytes_eq}
 use Rattle.std.specs.List.{list_all, list_any}
 use Rattle.graphite_base.specs.Numbers.{number_in}
 use Rattle.graphite_time.specs.declared.TheConstants.{LAST}
+use Rattle.graphite_text.specs.declared.limits.TheConstants.{LINE_LIMIT, NAME_LIMIT, KEY_LIMIT}
+use Rattle.graphite_text.specs.declared.rules.TheConstants.{LINE_RULE, SHAPE_RULE, NAMES_RULE, NUMBERS_RULE}
 use Rattle.graphite_text.specs.declared.span.Span.{Span}
 use Rattle.graphite_text.specs.Lines.{fields_of}
 
@@ -17,7 +19,7 @@ is_printable c = nat_le 32 c && nat_le c 126
 
 -- printable bytes, not too many, and in a record no empty field
 abbrev pub is_line : List ℕ → Bool
-is_line line = list_all is_printable line && nat_le (length line) 1024 && (is_skipped line || not (list_any (bytes_eq []) (fields_of line)))
+is_line line = list_all is_printable line && nat_le (length line) LINE_LIMIT && (is_skipped line || not (list_any (bytes_eq []) (fields_of line)))
 
 -- The fields of a record, with its texts and numbers as they are written.
 pub data Shape : Type 0 where
@@ -60,10 +62,10 @@ abbrev pub is_text_up_to : ℕ → List ℕ → Bool
 is_text_up_to most text = nat_lt 0 (length text) && nat_le (length text) most && list_all is_name_byte text
 
 abbrev pub is_name : List ℕ → Bool
-is_name text = is_text_up_to 64 text
+is_name text = is_text_up_to NAME_LIMIT text
 
 abbrev pub is_key : List ℕ → Bool
-is_key text = is_text_up_to 32 text
+is_key text = is_text_up_to KEY_LIMIT text
 
 -- each name and key of a record has its form
 abbrev pub has_names : Shape → Bool
@@ -132,17 +134,17 @@ span_of (VertexProperty owner key over value) = Some over
 span_of (EdgeProperty owner key over value) = Some over
 span_of End = None
 
--- what a record's fields say, or the least of the rules 3, 4 and 5 that they break
+-- what a record's fields say, or the least of the rules on shape, names and numbers that they break
 abbrev pub numbers_form : Option Form → Result (Option Form) ℕ
-numbers_form None = Err 5
+numbers_form None = Err NUMBERS_RULE
 numbers_form (Some form) = Ok (Some form)
 
 abbrev pub shape_form : Option Shape → Result (Option Form) ℕ
-shape_form None = Err 3
-shape_form (Some shape) = if has_names shape then numbers_form (form_of shape) else Err 4
+shape_form None = Err SHAPE_RULE
+shape_form (Some shape) = if has_names shape then numbers_form (form_of shape) else Err NAMES_RULE
 
--- what a line says, nothing where it is blank or a comment, or the least of the rules 1, 3, 4 and 5
--- that it breaks as far as one line shows it
+-- what a line says, nothing where it is blank or a comment, or the least of the rules on lines, shape,
+-- names and numbers that it breaks, as far as one line shows it
 abbrev pub line_form : List ℕ → Result (Option Form) ℕ
 line_form line =
-    if is_line line then (if is_skipped line then Ok None else shape_form (shape_of (fields_of line))) else Err 1
+    if is_line line then (if is_skipped line then Ok None else shape_form (shape_of (fields_of line))) else Err LINE_RULE

@@ -1,9 +1,11 @@
 -- The reading of a text: the graph that it is accepted with, or the line and the least rule that
 -- refuse it.
-use Rattle.std.specs.Prelude.{ℕ, ◌+◌, ◌-◌, Bool, true, false, ◌&&◌, ◌||◌, not, nat_le, nat_lt, ◌==◌, List, [], ◌∷◌, ◌++◌, length, codes, Option, Some, None, is_some, is_none, option_and_then, unwrap_or, Result, Ok, Err, zero, suc, if◌then◌else◌}
+use Rattle.std.specs.Prelude.{ℕ, ◌+◌, ◌-◌, Bool, true, false, ◌&&◌, ◌||◌, not, nat_le, nat_lt, ◌==◌, List, [], ◌∷◌, ◌++◌, length, map, codes, Option, Some, None, is_some, is_none, option_and_then, unwrap_or, Result, Ok, Err, zero, suc, if◌then◌else◌}
 use Rattle.std.specs.Str.{bytes_eq}
 use Rattle.std.specs.List.{list_any}
 use Rattle.std.specs.Option.{option_map_or}
+use Rattle.graphite_text.specs.declared.limits.TheConstants.{VERTEX_LIMIT, EDGE_LIMIT, PROPERTY_LIMIT}
+use Rattle.graphite_text.specs.declared.rules.TheConstants.{LINE_RULE, HEADER_RULE, SHAPE_RULE, NAMES_RULE, NUMBERS_RULE, ORDER_RULE, NEW_NAME_RULE, DECLARED_RULE, ENDS_RULE, OWNER_RULE, OVERLAP_RULE, TRAVEL_RULE, LIMIT_RULE, MISSING_END_RULE, AFTER_END_RULE, LENGTH_RULE}
 use Rattle.graphite_text.specs.declared.span.Span.{Span}
 use Rattle.graphite_text.specs.Graph.{PlainProperty, PlainGraph, is_alive, vertex_life, edge_life, vertex_number, edge_number, is_property_at}
 use Rattle.graphite_text.specs.Lines.{TextLine, lines_of, fields_of}
@@ -28,18 +30,18 @@ line_shape line = shape_of (fields_of line.bytes)
 abbrev pub form_of_line : TextLine → Option Form
 form_of_line line = option_and_then form_of (line_shape line)
 
--- Rule 1: the line is not ended, or breaks the form of a line.
+-- The rule on lines: the line is not ended, or breaks the form of a line.
 abbrev pub breaks_line : Known → TextLine → Bool
 breaks_line known line = not (line.ended && is_line line.bytes)
 
--- Rule 2: the first record is no header of version 1, or a later record is a header.
+-- The rule on headers: the first record is no header of version 1, or a later record is a header.
 abbrev pub is_other_version : List (List ℕ) → Bool
 is_other_version [] = false
 is_other_version (version ∷ fields) = not (bytes_eq version (codes "1"))
 
-abbrev pub is_no_header : List (List ℕ) → Bool
-is_no_header [] = true
-is_no_header (word ∷ fields) = not (bytes_eq word (codes "graph")) || is_other_version fields
+abbrev pub is_wrong_start : List (List ℕ) → Bool
+is_wrong_start [] = true
+is_wrong_start (word ∷ fields) = not (bytes_eq word (codes "graph")) || is_other_version fields
 
 abbrev pub is_header : List (List ℕ) → Bool
 is_header [] = false
@@ -47,32 +49,32 @@ is_header (word ∷ fields) = bytes_eq word (codes "graph")
 
 abbrev pub breaks_header : Known → TextLine → Bool
 breaks_header known line =
-    if known.started then is_header (fields_of line.bytes) else is_no_header (fields_of line.bytes)
+    if known.started then is_header (fields_of line.bytes) else is_wrong_start (fields_of line.bytes)
 
--- Rule 3: the first field is no record's word, or the number of fields is not that of the record.
+-- The rule on shape: the first field is no record's word, or the number of fields is not that of the record.
 abbrev pub breaks_shape : Known → TextLine → Bool
 breaks_shape known line = is_none (line_shape line)
 
--- Rule 4: a name or a key does not have its form.
+-- The rule on names: a name or a key does not have its form.
 abbrev pub breaks_names : Known → TextLine → Bool
 breaks_names known line = option_map_or (λ shape. not (has_names shape)) (line_shape line) false
 
--- Rule 5: a number does not have its form, or is too large.
+-- The rule on numbers: a number does not have its form, or is too large.
 abbrev pub breaks_numbers : Known → TextLine → Bool
 breaks_numbers known line = is_none (form_of_line line)
 
--- Rule 6: the span holds no instant, or goes past the horizon.
+-- The rule on order: the span holds no instant, or goes past the horizon.
 abbrev pub breaks_order : Known → Form → Bool
 breaks_order known form =
     option_map_or (λ over. not (nat_lt over.a over.b && nat_le over.b known.graph.horizon)) (span_of form) false
 
--- Rule 7: the name is declared already.
+-- The rule on new names: the name is declared already.
 abbrev pub breaks_new_name : Known → Form → Bool
 breaks_new_name known (Vertex name over) = is_some (vertex_number known.graph name)
 breaks_new_name known (Edge name from to over) = is_some (edge_number known.graph name)
 breaks_new_name known _ = false
 
--- Rule 8: an end of an edge or the owner of a property is not declared.
+-- The rule on what is declared: an end of an edge or the owner of a property is not declared.
 abbrev pub breaks_declared : Known → Form → Bool
 breaks_declared known (Edge name from to over) =
     is_none (vertex_number known.graph from) || is_none (vertex_number known.graph to)
@@ -95,13 +97,13 @@ life_of_vertex known name = vertex_life known.graph (unwrap_or (vertex_number kn
 abbrev pub life_of_edge : Known → List ℕ → List Span
 life_of_edge known name = edge_life known.graph (unwrap_or (edge_number known.graph name) 0)
 
--- Rule 9: at some instant of an edge one of its ends is not alive.
+-- The rule on ends: at some instant of an edge one of its ends is not alive.
 abbrev pub breaks_ends : Known → Form → Bool
 breaks_ends known (Edge name from to over) =
     not (throughout (is_alive (life_of_vertex known from)) over && throughout (is_alive (life_of_vertex known to)) over)
 breaks_ends known _ = false
 
--- Rule 10: at some instant of a property its owner is not alive.
+-- The rule on owners: at some instant of a property its owner is not alive.
 abbrev pub breaks_owner : Known → Form → Bool
 breaks_owner known (VertexProperty owner key over value) = not (throughout (is_alive (life_of_vertex known owner)) over)
 breaks_owner known (EdgeProperty owner key over value) = not (throughout (is_alive (life_of_edge known owner)) over)
@@ -112,7 +114,7 @@ abbrev pub is_apart : List PlainProperty → ℕ → List ℕ → Span → Bool
 is_apart properties owner key over =
     throughout (λ t. not (list_any (is_property_at owner key t) properties)) over
 
--- Rule 11: at some instant of a property an earlier one of its owner and key holds.
+-- The rule on overlaps: at some instant of a property an earlier one of its owner and key holds.
 abbrev pub breaks_apart : Known → Form → Bool
 breaks_apart known (VertexProperty owner key over value) =
     not (is_apart known.graph.vertex_properties (unwrap_or (vertex_number known.graph owner) 0) key over)
@@ -120,7 +122,7 @@ breaks_apart known (EdgeProperty owner key over value) =
     not (is_apart known.graph.edge_properties (unwrap_or (edge_number known.graph owner) 0) key over)
 breaks_apart known _ = false
 
--- Rule 12: the travel time of an edge is 0.
+-- The rule on travel times: the travel time of an edge is 0.
 abbrev pub breaks_travel : Known → Form → Bool
 breaks_travel known (EdgeProperty owner key over value) = bytes_eq key (codes "time") && (value == 0)
 breaks_travel known _ = false
@@ -129,49 +131,46 @@ breaks_travel known _ = false
 abbrev pub property_count : PlainGraph → ℕ
 property_count graph = length graph.vertex_properties + length graph.edge_properties
 
--- Rule 13: there are as many lines of this kind as there may be.
+-- The rule on limits: there are as many lines of this kind as there may be.
 abbrev pub breaks_limit : Known → Form → Bool
-breaks_limit known (Vertex name over) = nat_le 1048576 (length known.graph.vertices)
-breaks_limit known (Edge name from to over) = nat_le 2097152 (length known.graph.edges)
-breaks_limit known (VertexProperty owner key over value) = nat_le 4194304 (property_count known.graph)
-breaks_limit known (EdgeProperty owner key over value) = nat_le 4194304 (property_count known.graph)
+breaks_limit known (Vertex name over) = nat_le VERTEX_LIMIT (length known.graph.vertices)
+breaks_limit known (Edge name from to over) = nat_le EDGE_LIMIT (length known.graph.edges)
+breaks_limit known (VertexProperty owner key over value) = nat_le PROPERTY_LIMIT (property_count known.graph)
+breaks_limit known (EdgeProperty owner key over value) = nat_le PROPERTY_LIMIT (property_count known.graph)
 breaks_limit known _ = false
-
--- Rule 15: a record comes after `end`.
-abbrev pub breaks_end : Known → TextLine → Bool
-breaks_end known line = known.ended
 
 -- a test of what a record says
 abbrev pub of_form : (Known → Form → Bool) → Known → TextLine → Bool
 of_form breaks known line = option_map_or (breaks known) (form_of_line line) false
 
--- a test of records alone: blank lines and comments pass it
-abbrev pub of_record : (Known → TextLine → Bool) → Known → TextLine → Bool
-of_record breaks known line = not (is_skipped line.bytes) && breaks known line
+-- a rule's number, and what breaks it: lines, or what records say
+abbrev pub Rule : Type 0 → Type 0
+Rule A = ℕ × (Known → A → Bool)
 
--- a rule's number, and whether a line breaks it
-abbrev pub Rule : Type 0
-Rule = ℕ × (Known → TextLine → Bool)
+-- the rules on what a record says, in order
+abbrev pub form_rules : List (Rule Form)
+form_rules =
+    (ORDER_RULE, breaks_order) ∷ (NEW_NAME_RULE, breaks_new_name) ∷ (DECLARED_RULE, breaks_declared)
+    ∷ (ENDS_RULE, breaks_ends) ∷ (OWNER_RULE, breaks_owner) ∷ (OVERLAP_RULE, breaks_apart)
+    ∷ (TRAVEL_RULE, breaks_travel) ∷ (LIMIT_RULE, breaks_limit) ∷ []
 
--- the rules that are asked of a record, in order
-abbrev pub record_rules : List Rule
+-- the rules that are asked of the line of a record, in order
+abbrev pub record_rules : List (Rule TextLine)
 record_rules =
-    (2, breaks_header) ∷ (3, breaks_shape) ∷ (4, breaks_names) ∷ (5, breaks_numbers)
-    ∷ (6, of_form breaks_order) ∷ (7, of_form breaks_new_name) ∷ (8, of_form breaks_declared)
-    ∷ (9, of_form breaks_ends) ∷ (10, of_form breaks_owner) ∷ (11, of_form breaks_apart)
-    ∷ (12, of_form breaks_travel) ∷ (13, of_form breaks_limit) ∷ []
+    (HEADER_RULE, breaks_header) ∷ (SHAPE_RULE, breaks_shape) ∷ (NAMES_RULE, breaks_names)
+    ∷ (NUMBERS_RULE, breaks_numbers) ∷ map (λ rule. (rule.0, of_form rule.1)) form_rules
 
--- the first of the rules that the line breaks
-abbrev pub first_broken : List Rule → Known → TextLine → Option ℕ
-first_broken [] known line = None
-first_broken (rule ∷ rules) known line = if rule.1 known line then Some rule.0 else first_broken rules known line
+-- the first of the rules that is broken
+abbrev pub first_broken : {A : Type 0} → List (Rule A) → Known → A → Option ℕ
+first_broken [] known said = None
+first_broken (rule ∷ rules) known said = if rule.1 known said then Some rule.0 else first_broken rules known said
 
--- After `end` rule 15 takes the place of those of a record.
+-- After `end` its rule takes the place of those of a record.
 abbrev pub least_broken : Known → TextLine → Option ℕ
 least_broken known line =
-    if breaks_line known line then Some 1
+    if breaks_line known line then Some LINE_RULE
     else (if is_skipped line.bytes then None
-    else (if known.ended then Some 15 else first_broken record_rules known line))
+    else (if known.ended then Some AFTER_END_RULE else first_broken record_rules known line))
 
 -- the graph with what a record says
 abbrev pub with_form : PlainGraph → Form → PlainGraph
@@ -242,7 +241,7 @@ goes_on next line (Err rule) = Refused line rule
 
 -- the reading of the lines from a number on
 abbrev pub reading_from : ℕ → Known → List TextLine → Reading
-reading_from n known [] = if known.ended then Accepted known.graph else Refused n 14
+reading_from n known [] = if known.ended then Accepted known.graph else Refused n MISSING_END_RULE
 reading_from n known (line ∷ lines) = goes_on (λ after. reading_from (n + 1) after lines) n (after_line known line)
 
 -- the most bytes that a text may have
@@ -250,4 +249,4 @@ abbrev pub text_limit : ℕ
 text_limit = 268435456
 
 unfoldable pub reading_of : List ℕ → Reading
-reading_of bytes = if nat_le (length bytes) text_limit then reading_from 1 nothing_known (lines_of bytes) else Refused 0 16
+reading_of bytes = if nat_le (length bytes) text_limit then reading_from 1 nothing_known (lines_of bytes) else Refused 0 LENGTH_RULE

@@ -1,3 +1,4 @@
+//! A line in fields, and what its first fields say.
 ghost use Rattle.std.specs.Prelude.{◌≡◌, ◌∷◌, ◌&&◌, [], not, slice_get};
 ghost use Rattle.std.specs.List.{list_all, list_any};
 ghost use Rattle.std.specs.Option.{option_copied, option_map_or};
@@ -5,12 +6,10 @@ ghost use Rattle.std.specs.Str.{bytes_eq};
 ghost use Rattle.memchr.specs.Find.{IsFirstByte, is_byte};
 ghost use Rattle.graphite_text.specs.Forms.{is_line, is_printable, is_skipped};
 ghost use Rattle.graphite_text.specs.Lines.{fields_of};
-ghost use Rattle.graphite_text.specs.Reading.{is_header, is_no_header};
+ghost use Rattle.graphite_text.specs.Reading.{is_header, is_wrong_start};
 
+use crate::LINE_LIMIT;
 use std::marker::Model;
-
-/// The most bytes that a line may have.
-pub(crate) const LINE_LIMIT: usize = 1024;
 
 /// The fields of a line in order, parted at each space.
 #[derive(Drop)]
@@ -92,7 +91,7 @@ pub fn is_skipped(line: &[u8]) -> bool
     matches!(line, [] | [b'#', ..])
 }
 
-/// Whether a line has the form of a line: at most 1,024 bytes, each of them printable, and in a
+/// Whether a line has the form of a line: at most [`LINE_LIMIT`] bytes, each of them printable, and in a
 /// line that is neither blank nor a comment no empty field.
 pub fn is_line(line: &[u8]) -> bool
     ensures { result ≡ is_line line.now }
@@ -131,7 +130,7 @@ fn have_no_gap(line: &[u8]) -> bool
     !field_is_empty
 }
 
-/// Whether the first field of a line is `graph`.
+/// Whether a line is a header, of whatever version: its first field is `graph`.
 pub fn is_header(line: &[u8]) -> bool
     ensures { result ≡ is_header (fields_of line.now) }
 {
@@ -139,10 +138,10 @@ pub fn is_header(line: &[u8]) -> bool
     word == b"graph".as_slice()
 }
 
-/// Whether a line is no header of version 1: its first field is not `graph`, or it has a second
-/// field other than `1`.
-pub fn is_no_header(line: &[u8]) -> bool
-    ensures { result ≡ is_no_header (fields_of line.now) }
+/// Whether a line may not be the first record of a text, which is a header of version 1: its first
+/// field is not `graph`, or it has a second field other than `1`.
+pub fn is_wrong_start(line: &[u8]) -> bool
+    ensures { result ≡ is_wrong_start (fields_of line.now) }
 {
     let (word, rest) = first_field(line);
     if word != b"graph".as_slice() {

@@ -1,3 +1,4 @@
+//! The lines of a text, numbered from 1.
 ghost use Rattle.std.specs.Prelude.{◌≡◌, ◌<◌, ◌≤◌, ◌∷◌, length};
 ghost use Rattle.graphite_text.specs.Lines.{lines_of};
 ghost use Rattle.graphite_text.specs.Reading.{text_limit};

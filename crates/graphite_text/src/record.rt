@@ -1,35 +1,20 @@
+//! What one line says, with its numbers read.
 ghost use Rattle.std.specs.Prelude.{◌≡◌, ◌∷◌, ◌&&◌, [], Some, codes, option_map, true};
 ghost use Rattle.std.specs.List.{list_all};
 ghost use Rattle.graphite_text.specs.Forms.{horizon_in, is_key, is_name, is_name_byte, is_skipped, is_text_up_to, line_form, shape_form, shape_of, span_in, value_in};
 ghost use Rattle.graphite_text.specs.Lines.{fields_of};
 ghost use Rattle.graphite_text.specs.Record.{five_of, line_answer, record_answer, three_of, two_of};
 
-use crate::Span;
-use crate::fields::{Fields, LINE_LIMIT, first_field, is_line, is_skipped};
+use crate::fields::{Fields, first_field, is_line, is_skipped};
+use crate::{
+    KEY_LIMIT, LINE_LIMIT, LINE_RULE, NAME_LIMIT, NAMES_RULE, NUMBERS_RULE, SHAPE_RULE, Span,
+};
 use graphite_base::number_of;
 use graphite_time::LAST;
 
-/// The rule on the form of a line: its bytes, its length and its spaces.
-const LINE_RULE: u8 = 1;
-
-/// The rule on the first field and the number of fields.
-const SHAPE_RULE: u8 = 3;
-
-/// The rule on the form of names and keys.
-const NAME_RULE: u8 = 4;
-
-/// The rule on the form and the size of numbers.
-const NUMBER_RULE: u8 = 5;
-
-/// The most bytes that a name may have.
-const NAME_LIMIT: usize = 64;
-
-/// The most bytes that a key may have.
-const KEY_LIMIT: usize = 32;
-
 /// What a line says, with its numbers read. The texts borrow the line. In what [`record_of`] gives, a
-/// name has 1 to 64 bytes, a key 1 to 32, the horizon is from 1 to [`LAST`] instants, and the ends of
-/// a span are at most [`LAST`].
+/// name has 1 to [`NAME_LIMIT`] bytes, a key 1 to [`KEY_LIMIT`], the horizon is from 1 to [`LAST`]
+/// instants, and the ends of a span are at most [`LAST`].
 #[derive(Clone, Copy, Debug, PartialEq, Eq)]
 pub enum Record<'a> {
     Graph {
@@ -62,9 +47,9 @@ pub enum Record<'a> {
 }
 
 /// What a line says. `Ok(None)` exactly where it is blank or a comment of the right form. `Err`
-/// exactly where it breaks the form of a line (1), or is no record by its first field and the number
-/// of its fields (3), or has a name or a key (4) or a number (5) out of form: the least of these
-/// rules that it breaks. Takes no memory.
+/// exactly where it breaks the form of a line ([`LINE_RULE`]), or is no record by its first field and
+/// the number of its fields ([`SHAPE_RULE`]), or has a name or a key ([`NAMES_RULE`]) or a number
+/// ([`NUMBERS_RULE`]) out of form: the least of these rules that it breaks. Takes no memory.
 pub fn record_of(line: &[u8]) -> Result<Option<Record<'_>>, u8>
     ensures { line_answer result ≡ line_form line.now }
 {
@@ -123,10 +108,10 @@ fn header_in(fields: Fields<'_>) -> Result<Record<'_>, u8>
         return Err(SHAPE_RULE);
     };
     let Some(version) = value_in(version) else {
-        return Err(NUMBER_RULE);
+        return Err(NUMBERS_RULE);
     };
     let Some(horizon) = horizon_in(horizon) else {
-        return Err(NUMBER_RULE);
+        return Err(NUMBERS_RULE);
     };
     Ok(Record::Graph { version, horizon })
 }
@@ -138,10 +123,10 @@ fn vertex_in(fields: Fields<'_>) -> Result<Record<'_>, u8>
         return Err(SHAPE_RULE);
     };
     if !is_name(name) {
-        return Err(NAME_RULE);
+        return Err(NAMES_RULE);
     }
     let Some(over) = span_in(a, b) else {
-        return Err(NUMBER_RULE);
+        return Err(NUMBERS_RULE);
     };
     Ok(Record::Vertex { name, over })
 }
@@ -153,10 +138,10 @@ fn edge_in(fields: Fields<'_>) -> Result<Record<'_>, u8>
         return Err(SHAPE_RULE);
     };
     if !are_names(name, from, to) {
-        return Err(NAME_RULE);
+        return Err(NAMES_RULE);
     }
     let Some(over) = span_in(a, b) else {
-        return Err(NUMBER_RULE);
+        return Err(NUMBERS_RULE);
     };
     Ok(Record::Edge {
         name,
@@ -173,13 +158,13 @@ fn vertex_property_in(fields: Fields<'_>) -> Result<Record<'_>, u8>
         return Err(SHAPE_RULE);
     };
     if !are_name_and_key(owner, key) {
-        return Err(NAME_RULE);
+        return Err(NAMES_RULE);
     }
     let Some(over) = span_in(a, b) else {
-        return Err(NUMBER_RULE);
+        return Err(NUMBERS_RULE);
     };
     let Some(value) = value_in(value) else {
-        return Err(NUMBER_RULE);
+        return Err(NUMBERS_RULE);
     };
     Ok(Record::VertexProp {
         owner,
@@ -196,13 +181,13 @@ fn edge_property_in(fields: Fields<'_>) -> Result<Record<'_>, u8>
         return Err(SHAPE_RULE);
     };
     if !are_name_and_key(owner, key) {
-        return Err(NAME_RULE);
+        return Err(NAMES_RULE);
     }
     let Some(over) = span_in(a, b) else {
-        return Err(NUMBER_RULE);
+        return Err(NUMBERS_RULE);
     };
     let Some(value) = value_in(value) else {
-        return Err(NUMBER_RULE);
+        return Err(NUMBERS_RULE);
     };
     Ok(Record::EdgeProp {
         owner,

@@ -1,3 +1,4 @@
+//! Tests on lines, records and their rules.
 use super::*;
 use std::test::Fail;
 
@@ -130,8 +131,8 @@ fn fields_are_counted_from_zero(rt: HostRuntime) {
 fn headers_are_told_apart(rt: HostRuntime) {
     assert!(rt; is_header(b"graph 2 10"));
     assert!(rt; !is_header(b"graphs 1 10"));
-    assert!(rt; !is_no_header(b"graph 1 10"));
-    assert!(rt; !is_no_header(b"graph"));
-    assert!(rt; is_no_header(b"graph 2 10"));
-    assert!(rt; is_no_header(b"v a 0 10"));
+    assert!(rt; !is_wrong_start(b"graph 1 10"));
+    assert!(rt; !is_wrong_start(b"graph"));
+    assert!(rt; is_wrong_start(b"graph 2 10"));
+    assert!(rt; is_wrong_start(b"v a 0 10"));
 }
