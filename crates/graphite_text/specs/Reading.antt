@@ -4,6 +4,7 @@ use Rattle.std.specs.Prelude.{ℕ, ◌+◌, ◌-◌, Bool, true, false, ◌&&◌
 use Rattle.std.specs.Str.{bytes_eq}
 use Rattle.std.specs.List.{list_any}
 use Rattle.std.specs.Option.{option_map_or}
+use Rattle.graphite_base.specs.declared.reading.TheConstants.{TEXT_LIMIT}
 use Rattle.graphite_text.specs.declared.limits.TheConstants.{VERTEX_LIMIT, EDGE_LIMIT, PROPERTY_LIMIT}
 use Rattle.graphite_text.specs.declared.rules.TheConstants.{LINE_RULE, HEADER_RULE, SHAPE_RULE, NAMES_RULE, NUMBERS_RULE, ORDER_RULE, NEW_NAME_RULE, DECLARED_RULE, ENDS_RULE, OWNER_RULE, OVERLAP_RULE, TRAVEL_RULE, LIMIT_RULE, MISSING_END_RULE, AFTER_END_RULE, LENGTH_RULE}
 use Rattle.graphite_text.specs.declared.span.Span.{Span}
@@ -246,7 +247,7 @@ reading_from n known (line ∷ lines) = goes_on (λ after. reading_from (n + 1) 
 
 -- the most bytes that a text may have
 abbrev pub text_limit : ℕ
-text_limit = 268435456
+text_limit = TEXT_LIMIT
 
 unfoldable pub reading_of : List ℕ → Reading
 reading_of bytes = if nat_le (length bytes) text_limit then reading_from 1 nothing_known (lines_of bytes) else Refused 0 LENGTH_RULE

@@ -26,12 +26,13 @@ pub struct Lines<'a> {
 impl<'a> Model for Lines<'a> {
     ghost use Rattle.std.specs.Prelude.{◌+◌, ◌≤◌, length};
     ghost use Rattle.graphite_text.specs.Lines.{NumberedLines, lines_of};
+    ghost use Rattle.graphite_text.specs.Reading.{text_limit};
 
     ghost Value = { NumberedLines };
 
     ghost view = { λ it. record { first = it.number; lines = lines_of it.rest.now } };
 
-    ghost invariant = { λ it. it.number + length it.rest.now ≤ 268435457 };
+    ghost invariant = { λ it. it.number + length it.rest.now ≤ text_limit + 1 };
 }
 
 /// The first line of a text, whether a line feed ends it, and what comes after it.
@@ -48,7 +49,7 @@ fn first_line(text: &[u8]) -> (&[u8], bool, &[u8])
 }
 
 impl<'a> Lines<'a> {
-    /// The lines of a text of at most 268,435,456 bytes. Takes no memory.
+    /// The lines of a text of at most [`graphite_base::TEXT_LIMIT`] bytes. Takes no memory.
     pub fn new(text: &'a [u8]) -> Lines<'a>
         requires { length text.now ≤ text_limit }
         ensures { result ≡ record { first = 1; lines = lines_of text.now } }
@@ -86,7 +87,7 @@ impl<'a> Iterator for Lines<'a> {
     }
 }
 
-/// How many lines a text of at most 268,435,456 bytes has. Takes no memory.
+/// How many lines a text of at most [`graphite_base::TEXT_LIMIT`] bytes has. Takes no memory.
 pub fn line_count(text: &[u8]) -> u32
     requires { length text.now ≤ text_limit }
     ensures { result ≡ length (lines_of text.now) }
