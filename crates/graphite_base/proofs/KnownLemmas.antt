@@ -9,7 +9,7 @@ use Rattle.graphite_base.specs.Known.{IsEmptied, IsWhole, AppendsPart, TookJust,
 
 -- ---- one loop's step
 
--- of the rest of a piece, a front was written behind what was written before
+-- of the rest of a piece, a prefix was written behind what was written before
 pub Appends-more : (a b c : Option (List ℕ)) (done count : ℕ) (piece : List ℕ) → Appends a b (take done piece)
     → Appends b c (take count (take (length piece - done) (drop done piece))) → Appends a c (take (done + count) piece)
 Appends-more a b c done count piece before now =
@@ -79,7 +79,7 @@ TookJust-length xs (Some ys) count (bs, exact, taken) =
 pub TookAtMost-weaker : (a b : Option (List ℕ)) (most more : ℕ) → most ≤ more → TookAtMost a b most → TookAtMost a b more
 TookAtMost-weaker a b most more le (bs, short, taken) = (bs, omega arith, taken)
 
--- the front of what is left was copied, and the rest is left
+-- a prefix of what is left was copied, and the rest is left
 pub drop-moved : (bytes moved behind : List ℕ) (at count : ℕ) → moved ≡ take count (take (length bytes - at) (drop at bytes))
     → count ≤ length bytes - at → drop at bytes ≡ take count (moved ++ behind) ++ drop (at + count) bytes
 drop-moved bytes moved behind at count copied short =

@@ -12,7 +12,8 @@ use Rattle.graphite_time.proofs.LifeLemmas.{holds-from, holds_before, holds_afte
 use Rattle.graphite_part.specs.declared.piece.Piece.{Piece}
 use Rattle.graphite_part.specs.Pieces.{value_at, IsChain, AreRuns, last_end}
 use Rattle.graphite_part.specs.Fills.{Pushed, Filled}
-use Rattle.graphite_part.specs.Counts.{covers_at, counted, passed_at, open_at, AreSwept, ArePassed, HavePassed}
+use Rattle.graphite_part.specs.Counts.{covers_at, counted}
+use Rattle.graphite_part.specs.Sweep.{passed_at, open_at, AreSwept, ArePassed, HavePassed}
 use Rattle.graphite_part.proofs.FillLemmas.{value_at-past}
 use Rattle.graphite_part.proofs.CopyLemmas.{IsChain-take, next_piece}
 

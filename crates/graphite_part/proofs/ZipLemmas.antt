@@ -9,8 +9,8 @@ use Rattle.graphite_time.specs.Interval.{start_of, end_of, holds}
 use Rattle.graphite_time.proofs.LifeLemmas.{holds-true, holds-from}
 use Rattle.graphite_part.specs.declared.piece.Piece.{Piece}
 use Rattle.graphite_part.specs.Pieces.{value_at, IsChain, AreRuns, last_end}
-use Rattle.graphite_part.specs.Fills.{Filled, Pushed}
-use Rattle.graphite_part.specs.Calls.{zipped, PairPushed}
+use Rattle.graphite_part.specs.Fills.{Filled, Pushed, PairPushed}
+use Rattle.graphite_part.specs.Calls.{zipped}
 use Rattle.graphite_part.proofs.FillLemmas.{value_at-past}
 use Rattle.graphite_part.proofs.CopyLemmas.{next_piece}
 use Rattle.graphite_part.proofs.SweepLemmas.{Filled-runs, value_at-span}

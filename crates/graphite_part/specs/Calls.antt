@@ -1,10 +1,10 @@
 -- What the calls of a partition make of its values, instant by instant.
-use Rattle.std.specs.Prelude.{◌≡◌, ℕ, ◌≤◌, max, min, ◌&&◌, if◌then◌else◌, List, Option, Some, None, IsSomeAnd}
+use Rattle.std.specs.Prelude.{◌≡◌, ℕ, if◌then◌else◌, List, Option, Some, None, IsSomeAnd}
 use Rattle.std.specs.Option.{option_zip}
 use Rattle.graphite_time.specs.declared.interval.Interval.{Interval}
-use Rattle.graphite_time.specs.Interval.{end_of, holds}
+use Rattle.graphite_time.specs.Interval.{holds}
 use Rattle.graphite_part.specs.declared.piece.Piece.{Piece}
-use Rattle.graphite_part.specs.Pieces.{value_at, IsChain, AreRuns, last_end}
+use Rattle.graphite_part.specs.Pieces.{value_at, IsChain}
 
 -- nothing at the instants of an interval, and f at all others
 abbrev pub cut_out : {X : Type 0} → (ℕ → Option X) → Interval → ℕ → Option X
@@ -23,8 +23,3 @@ IsAnswer R (Some x) answer = IsSomeAnd answer (R x)
 pub record AreAnswers {X Y : Type 0} (R : X → Y → Type 0) (old : List (Piece X)) (new : List (Piece Y)) : Type 0 where
   pub in_order : IsChain new
   pub values : (t : ℕ) → IsAnswer R (value_at old t) (value_at new t)
-
--- the pair of two values was pushed behind the old pieces, at the instants that both hold
-pub record PairPushed {X Y : Type 0} (old new : List (Piece (X × Y))) (x : Piece X) (y : Piece Y) : Type 0 where
-  pub runs : AreRuns (λ t. if holds x.over t && holds y.over t then Some (x.value, y.value) else value_at old t) new
-  pub end : last_end new ≤ max (last_end old) (min (end_of x.over) (end_of y.over))

@@ -1,7 +1,7 @@
--- What a push onto a list of pieces does.
-use Rattle.std.specs.Prelude.{◌≡◌, ℕ, ◌-◌, ◌<◌, ◌≤◌, max, List, [], ◌∷◌, Option, Some, length, slice_get}
+-- For `append`, private functions and proofs: what is written at the end of a list of pieces.
+use Rattle.std.specs.Prelude.{◌≡◌, ℕ, ◌-◌, ◌<◌, ◌≤◌, max, min, ◌&&◌, if◌then◌else◌, List, [], ◌∷◌, Option, Some, length, slice_get}
 use Rattle.graphite_time.specs.declared.interval.Interval.{Interval}
-use Rattle.graphite_time.specs.Interval.{start_of, end_of}
+use Rattle.graphite_time.specs.Interval.{start_of, end_of, holds}
 use Rattle.graphite_part.specs.declared.piece.Piece.{Piece}
 use Rattle.graphite_part.specs.Pieces.{value_at, AreRuns, IsChain, last_end, painted}
 
@@ -36,3 +36,8 @@ pub record Filled {X : Type 0} (g : ℕ → Option X) (old new : List (Piece X))
 pub record Copied {X : Type 0} (pieces old new : List (Piece X)) (from until : ℕ) : Type 0 where
   pub filled : Filled (value_at pieces) old new from until
   pub short : last_end new ≤ max from (last_end pieces)
+
+-- the pair of two values was pushed behind the old pieces, at the instants that both hold
+pub record PairPushed {X Y : Type 0} (old new : List (Piece (X × Y))) (x : Piece X) (y : Piece Y) : Type 0 where
+  pub runs : AreRuns (λ t. if holds x.over t && holds y.over t then Some (x.value, y.value) else value_at old t) new
+  pub end : last_end new ≤ max (last_end old) (min (end_of x.over) (end_of y.over))

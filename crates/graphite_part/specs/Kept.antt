@@ -1,4 +1,4 @@
--- The list of pieces that a partition keeps in one of two ways.
+-- For private functions and proofs alone: the list of pieces that a partition keeps in one of two ways.
 use Rattle.std.specs.Prelude.{List, [], ◌∷◌}
 use Rattle.graphite_part.specs.declared.piece.Piece.{Piece}
 use Rattle.graphite_part.specs.declared.pieces.Pieces.{Pieces}

@@ -6,3 +6,4 @@ pub mod Pieces
 pub mod Plain
 pub mod PlainLaws
 pub mod Runs
+pub mod Sweep

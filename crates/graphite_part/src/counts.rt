@@ -2,7 +2,7 @@
 ghost use Rattle.std.specs.Prelude.{◌≡◌, ◌+◌, ◌^◌, ◌<◌, ◌≤◌, ℕ, All, List, Some, map, min, option_map, slice_index_or, IfOk};
 ghost use Rattle.std.specs.List.Sorted.{IsNonDecreasing, IsPermutation};
 ghost use Rattle.graphite_time.specs.Interval.{start_of, end_of};
-ghost use Rattle.graphite_part.specs.Counts.{open_at, AreSwept, ArePassed, HavePassed};
+ghost use Rattle.graphite_part.specs.Sweep.{open_at, AreSwept, ArePassed, HavePassed};
 ghost use Rattle.graphite_part.specs.Fills.{Filled};
 ghost use Rattle.graphite_part.specs.Pieces.{value_at, last_end, IsChain, AreRuns};
 

@@ -1,7 +1,8 @@
 //! Pairs of the values of two lists of pieces, in one pass over both.
 ghost use Rattle.std.specs.Prelude.{◌≤◌, max, IfOk, OnOk};
 ghost use Rattle.graphite_time.specs.Interval.{start_of};
-ghost use Rattle.graphite_part.specs.Calls.{zipped, PairPushed};
+ghost use Rattle.graphite_part.specs.Calls.{zipped};
+ghost use Rattle.graphite_part.specs.Fills.{PairPushed};
 ghost use Rattle.graphite_part.specs.Pieces.{value_at, last_end, IsChain, AreRuns};
 
 use crate::fill::push_piece;

@@ -19,7 +19,8 @@ use Rattle.graphite_warp.specs.declared.message.Message.{Message}
 use Rattle.graphite_warp.specs.declared.touch.Touch.{Touch}
 use Rattle.graphite_warp.specs.declared.touch.Touch.TheVariants as touch_is
 use Rattle.graphite_warp.specs.Sorted.{with_element, sorted}
-use Rattle.graphite_warp.specs.Warp.{held_notes, notes_at, is_touched, is_asked, asks_for, warped, IsSteady}
+use Rattle.graphite_warp.specs.Warp.{held_notes, notes_at, is_touched, is_asked, warped}
+use Rattle.graphite_warp.specs.Ordered.{asks_for, IsSteady}
 
 -- an instant is asked for where its notes say so
 

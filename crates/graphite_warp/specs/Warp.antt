@@ -1,9 +1,8 @@
 -- Time-warp: states and messages aligned, instant by instant.
-use Rattle.std.specs.Prelude.{◌≡◌, ℕ, ◌<◌, ◌≤◌, Bool, true, false, if◌then◌else◌, List, [], ◌∷◌, Option, None, map, filter, option_map}
+use Rattle.std.specs.Prelude.{ℕ, Bool, true, if◌then◌else◌, List, Option, None, map, filter, option_map}
 use Rattle.std.specs.List.{list_any}
 use Rattle.std.specs.declared.cmp.Ordering.{Ordering}
-use Rattle.graphite_time.specs.declared.interval.Interval.{Interval}
-use Rattle.graphite_time.specs.Interval.{start_of, end_of, holds}
+use Rattle.graphite_time.specs.Interval.{holds}
 use Rattle.graphite_warp.specs.declared.message.Message.{Message}
 use Rattle.graphite_warp.specs.declared.touch.Touch.{Touch}
 use Rattle.graphite_warp.specs.declared.touch.Touch.TheVariants.{All, Touched}
@@ -30,13 +29,3 @@ is_asked Touched messages t = is_touched messages t
 abbrev pub warped : {S M : Type 0} → (M → M → Ordering) → Touch → (ℕ → Option S) → List (Message M) → ℕ → Option (S × List M)
 warped cmp touch states messages t =
     if is_asked touch messages t then option_map (λ state. (state, notes_at cmp messages t)) (states t) else None
-
--- whether an instant with these notes is one of those that are asked for
-abbrev pub asks_for : {M : Type 0} → Touch → List M → Bool
-asks_for All notes = true
-asks_for Touched [] = false
-asks_for Touched (note ∷ notes) = true
-
--- the message holds all instants of the interval, or none
-abbrev pub IsSteady : {M : Type 0} → Interval → Message M → Type 0
-IsSteady over message = (t : ℕ) → start_of over ≤ t → t < end_of over → holds message.over t ≡ holds message.over (start_of over)

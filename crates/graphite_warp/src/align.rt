@@ -4,7 +4,8 @@ ghost use Rattle.std.specs.List.Sorted.{IsNonDecreasing, IsPermutation};
 ghost use Rattle.graphite_time.specs.Interval.{start_of, end_of};
 ghost use Rattle.graphite_part.specs.Pieces.{value_at, last_end, IsChain, AreRuns};
 ghost use Rattle.graphite_part.specs.Fills.{Filled};
-ghost use Rattle.graphite_warp.specs.Warp.{warped, IsSteady};
+ghost use Rattle.graphite_warp.specs.Ordered.{IsSteady};
+ghost use Rattle.graphite_warp.specs.Warp.{warped};
 
 use crate::ends::{next_end, sorted_ends};
 use crate::ordered::Ordered;

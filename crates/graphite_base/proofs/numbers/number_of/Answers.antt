@@ -1,3 +1,4 @@
+-- Where there are digits and no leading zero, only the digits count.
 use Rattle.std.proofs.Common.{◌≡◌, ◌<◌, length, false, arith}
 use Rattle.graphite_base.specs.Numbers.{has_leading_zero}
 use Rattle.graphite_base.proofs.NumberLemmas.{number_in-digits}

@@ -1,3 +1,4 @@
+-- One digit more, a byte that is none, and a number that is too large.
 use Rattle.std.proofs.Common.{◌≡◌, ◌-◌, ◌+◌, ◌*◌, true, get_or, false, arith}
 use Rattle.std.specs.Char.{is_ascii_digit}
 use Rattle.graphite_base.proofs.NumberLemmas.{digits_after-more, digits_after-past, digits_after-stop, digits_after-all, digits_after-over}

@@ -1,3 +1,4 @@
+-- The bytes that were taken, and how many.
 use Rattle.std.proofs.Common.{◌+◌, ◌≤◌, ◌++◌, length, take, arith}
 use Rattle.std.proofs.KnownBytes.{Consumes-trans}
 use Rattle.graphite_base.proofs.KnownLemmas.{length-gathered}

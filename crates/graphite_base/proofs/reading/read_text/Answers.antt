@@ -1,3 +1,4 @@
+-- What the pieces gave is handed on.
 use Rattle.std.proofs.lemmas.Result.{err_from_is_err_and}
 use Rattle.graphite_base.proofs.reading.read_text.Goals as goal
 

@@ -1,3 +1,4 @@
+-- One write more, of the bytes that are still to be written.
 use Rattle.std.proofs.Common.{◌-◌, ◌≤◌, ◌∙◌, length, arith}
 use Rattle.graphite_base.proofs.KnownLemmas.{Appends-more, length-rest}
 use Rattle.graphite_base.proofs.writing.write_all.Goals as goal

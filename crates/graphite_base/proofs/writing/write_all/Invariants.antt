@@ -1,4 +1,4 @@
--- So many bytes from the front of the piece were written so far.
+-- The first bytes of the piece were written so far, and no fault was counted.
 use Rattle.std.proofs.Common.{◌≡◌, ◌≤◌, ◌-◌, length, take}
 use Rattle.std.specs.Io.KnownBytes.{Appends}
 use Rattle.graphite_base.proofs.writing.write_all.Given as goal

@@ -1,3 +1,4 @@
+-- One piece more is counted.
 use Rattle.graphite_part.proofs.CountLemmas.{BeforePiece-more, at_piece}
 use Rattle.graphite_part.proofs.counts.counted_pieces.Goals as goal
 

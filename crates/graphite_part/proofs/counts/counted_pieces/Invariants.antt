@@ -1,3 +1,4 @@
+-- The pieces so far were counted.
 use Rattle.std.proofs.Common.{take}
 use Rattle.graphite_part.proofs.CountLemmas.{BeforePiece}
 use Rattle.graphite_part.proofs.counts.counted_pieces.Given as goal

@@ -1,3 +1,4 @@
+-- The piece is counted up to the next start or end.
 use Rattle.std.proofs.Common.{arith, rules}
 use Rattle.graphite_part.proofs.CountLemmas.{InPiece-more, ended_le_started}
 use Rattle.graphite_part.proofs.counts.fill_counted.Goals as goal

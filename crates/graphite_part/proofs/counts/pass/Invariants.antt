@@ -1,5 +1,6 @@
+-- So many instants of the list have passed.
 use Rattle.std.proofs.Common.{◌-◌, length}
-use Rattle.graphite_part.specs.Counts.{ArePassed}
+use Rattle.graphite_part.specs.Sweep.{ArePassed}
 use Rattle.graphite_part.proofs.counts.pass.Given as goal
 
 abbrev pub invariant-loop-passed : goal.invariant-loop-passed

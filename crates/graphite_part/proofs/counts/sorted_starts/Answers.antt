@@ -1,3 +1,4 @@
+-- What was sorted rises.
 use Rattle.std.proofs.lemmas.List.Sorted.{IsNonDecreasingBy-from_sort}
 use Rattle.graphite_part.proofs.counts.sorted_starts.Goals as goal
 

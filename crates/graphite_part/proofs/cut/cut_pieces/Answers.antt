@@ -1,3 +1,4 @@
+-- What lies before and after the interval was copied.
 use Rattle.graphite_part.proofs.CutLemmas.{cut-runs_at}
 use Rattle.graphite_part.proofs.cut.cut_pieces.Goals as goal
 

@@ -1,3 +1,4 @@
+-- One piece more is copied, as far as it lies between.
 use Rattle.std.proofs.lemmas.List.{take_all}
 use Rattle.graphite_part.specs.Pieces.{value_at}
 use Rattle.graphite_part.specs.Fills.{Filled}

@@ -1,3 +1,4 @@
+-- What lies between of the pieces so far was copied.
 use Rattle.std.proofs.Common.{take}
 use Rattle.graphite_part.specs.Fills.{Copied}
 use Rattle.graphite_part.proofs.fill.copy_between.Given as goal

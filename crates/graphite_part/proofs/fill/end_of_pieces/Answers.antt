@@ -1,3 +1,4 @@
+-- The end of the last piece.
 use Rattle.std.proofs.Common.{rules, of_calls}
 use Rattle.graphite_part.proofs.CopyLemmas.{last_end-read}
 use Rattle.graphite_part.proofs.fill.end_of_pieces.Goals as goal

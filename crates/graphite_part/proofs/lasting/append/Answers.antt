@@ -1,3 +1,4 @@
+-- One more at the end, or the last one lengthened.
 use Rattle.std.proofs.Common.{rules}
 use Rattle.graphite_part.proofs.FillLemmas.{Pushed-seen_new, Pushed-seen_longer}
 use Rattle.graphite_part.proofs.lasting.append.Goals as goal

@@ -1,3 +1,4 @@
+-- Answers that a function determines are its runs.
 use Rattle.graphite_part.proofs.MapLemmas.{AreRuns-from_answers}
 use Rattle.graphite_part.proofs.laws.answers_are_runs.Goals as goal
 

@@ -1,3 +1,4 @@
+-- One chain has the values.
 use Rattle.graphite_part.proofs.PiecesLemmas.{chains_agree}
 use Rattle.graphite_part.proofs.laws.chain_is_unique.Goals as goal
 

@@ -1,3 +1,4 @@
+-- The runs of what a function makes of the values.
 use Rattle.graphite_part.proofs.PiecesLemmas.{runs_of-mapped}
 use Rattle.graphite_part.proofs.laws.pieces_are_mapped_runs.Goals as goal
 

@@ -1,3 +1,4 @@
+-- The pieces are the maximal runs.
 use Rattle.graphite_part.proofs.PiecesLemmas.{runs_of-pieces}
 use Rattle.graphite_part.proofs.laws.pieces_are_runs.Goals as goal
 

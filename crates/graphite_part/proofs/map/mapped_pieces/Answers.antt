@@ -1,3 +1,4 @@
+-- One piece more has an answer.
 use Rattle.graphite_part.proofs.MapLemmas.{Answered-more, next_later}
 use Rattle.graphite_part.proofs.map.mapped_pieces.Goals as goal
 

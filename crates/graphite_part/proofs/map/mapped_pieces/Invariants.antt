@@ -1,3 +1,4 @@
+-- The pieces so far have answers.
 use Rattle.std.proofs.Common.{take}
 use Rattle.graphite_part.proofs.MapLemmas.{Answered}
 use Rattle.graphite_part.proofs.map.mapped_pieces.Given as goal

@@ -1,3 +1,4 @@
+-- What was copied, painted and copied is painted.
 use Rattle.graphite_part.proofs.CopyLemmas.{painted-runs_at}
 use Rattle.graphite_part.proofs.partition.painted_pieces.Goals as goal
 

@@ -1,3 +1,4 @@
+-- A piece was made for each lifespan so far.
 use Rattle.std.proofs.Common.{◌≡◌, map, take}
 use Rattle.graphite_part.specs.Pieces.{piece_on}
 use Rattle.graphite_part.proofs.partition.pieces_on.Given as goal

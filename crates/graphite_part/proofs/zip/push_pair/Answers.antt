@@ -1,3 +1,4 @@
+-- The pair is pushed where both hold, and else nothing.
 use Rattle.std.proofs.Common.{arith}
 use Rattle.graphite_part.proofs.ZipLemmas.{common-within, PairPushed-some}
 use Rattle.graphite_part.proofs.zip.push_pair.Goals as goal

@@ -1,3 +1,4 @@
+-- The pair of two pieces is written, and the one that ends first is left.
 use Rattle.std.proofs.Common.{arith}
 use Rattle.graphite_part.proofs.ZipLemmas.{next_start, HaveZipped-left, HaveZipped-right, zipped-runs}
 use Rattle.graphite_part.proofs.zip.zipped_pieces.Goals as goal

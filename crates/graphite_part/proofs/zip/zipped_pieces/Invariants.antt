@@ -1,3 +1,4 @@
+-- The pairs are written up to where either list has been read.
 use Rattle.std.proofs.Common.{length, ◌+◌, ◌-◌}
 use Rattle.graphite_part.proofs.ZipLemmas.{HaveZipped}
 use Rattle.graphite_part.proofs.zip.zipped_pieces.Given as goal

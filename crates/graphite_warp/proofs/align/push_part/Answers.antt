@@ -1,3 +1,4 @@
+-- A part is asked for, or not.
 use Rattle.std.proofs.Common.{rules}
 use Rattle.graphite_warp.proofs.WarpLemmas.{part-pushed, part-skipped}
 use Rattle.graphite_warp.proofs.align.push_part.Goals as goal

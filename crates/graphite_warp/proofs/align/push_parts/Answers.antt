@@ -1,3 +1,4 @@
+-- The messages are the same throughout the next part.
 use Rattle.std.proofs.Common.{rules}
 use Rattle.graphite_warp.proofs.WarpLemmas.{steady}
 use Rattle.graphite_warp.proofs.align.push_parts.Goals as goal

@@ -1,3 +1,4 @@
+-- The piece was aligned up to an instant.
 use Rattle.std.proofs.Common.{◌-◌}
 use Rattle.graphite_time.specs.Interval.{end_of}
 use Rattle.graphite_warp.proofs.WarpLemmas.{InPiece}

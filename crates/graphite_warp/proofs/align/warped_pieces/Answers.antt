@@ -1,3 +1,4 @@
+-- One piece more is aligned.
 use Rattle.graphite_warp.proofs.WarpLemmas.{piece-later, piece-more, warped-runs}
 use Rattle.graphite_warp.proofs.align.warped_pieces.Goals as goal
 

@@ -1,3 +1,4 @@
+-- The pieces so far were aligned.
 use Rattle.std.proofs.Common.{take}
 use Rattle.graphite_part.specs.Pieces.{value_at, last_end}
 use Rattle.graphite_part.specs.Fills.{Filled}

@@ -1,3 +1,4 @@
+-- Each instant that is asked for lies in a triple.
 use Rattle.graphite_warp.proofs.LawLemmas.{warped-is_some}
 use Rattle.graphite_warp.proofs.laws.instants_are_met.Goals as goal
 

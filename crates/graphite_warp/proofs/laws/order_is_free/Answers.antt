@@ -1,3 +1,4 @@
+-- Messages in another order have the same sorted notes.
 use Rattle.graphite_warp.proofs.LawLemmas.{notes_at-permutation, warped-permutation}
 use Rattle.graphite_warp.proofs.laws.order_is_free.Goals as goal
 

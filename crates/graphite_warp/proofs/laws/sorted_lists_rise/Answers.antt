@@ -1,3 +1,4 @@
+-- A sorted list has the same elements, in rising order.
 use Rattle.graphite_warp.proofs.SortedLemmas.{IsPermutation-sorted, IsSorted-sorted}
 use Rattle.graphite_warp.proofs.laws.sorted_lists_rise.Goals as goal
 

@@ -1,3 +1,4 @@
+-- An instant is touched where it has a note.
 use Rattle.graphite_warp.proofs.LawLemmas.{touched-noted}
 use Rattle.graphite_warp.proofs.laws.touched_instants_have_notes.Goals as goal
 

@@ -1,3 +1,4 @@
+-- The triples are the maximal runs.
 use Rattle.graphite_part.proofs.PiecesLemmas.{runs_of-pieces}
 use Rattle.graphite_warp.specs.Warp.{warped}
 use Rattle.graphite_warp.proofs.WarpLemmas.{warped-none}

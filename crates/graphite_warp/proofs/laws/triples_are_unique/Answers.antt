@@ -1,3 +1,4 @@
+-- One list of triples has the states and notes.
 use Rattle.graphite_part.proofs.PiecesLemmas.{AreRuns-unique}
 use Rattle.graphite_warp.specs.Warp.{warped}
 use Rattle.graphite_warp.proofs.laws.triples_are_unique.Goals as goal

@@ -1,3 +1,4 @@
+-- What a triple holds is so at each of its instants.
 use Rattle.graphite_warp.proofs.LawLemmas.{triple-tells}
 use Rattle.graphite_warp.proofs.laws.triples_tell.Goals as goal
 

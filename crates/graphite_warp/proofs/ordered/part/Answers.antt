@@ -1,3 +1,4 @@
+-- Neither what lies before nor what lies after holds the instant.
 use Rattle.graphite_warp.proofs.OrderedLemmas.{held-part}
 use Rattle.graphite_warp.proofs.ordered.part.Goals as goal
 

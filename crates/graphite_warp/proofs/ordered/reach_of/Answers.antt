@@ -1,3 +1,4 @@
+-- One message more.
 use Rattle.std.proofs.Common.{arith}
 use Rattle.graphite_warp.proofs.OrderedLemmas.{IsReachSoFar-more}
 use Rattle.graphite_warp.proofs.ordered.reach_of.Goals as goal

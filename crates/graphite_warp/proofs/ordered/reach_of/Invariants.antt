@@ -1,3 +1,4 @@
+-- The messages so far have ended by the last reach.
 use Rattle.graphite_warp.proofs.OrderedLemmas.{IsReachSoFar}
 use Rattle.graphite_warp.proofs.ordered.reach_of.Given as goal
 

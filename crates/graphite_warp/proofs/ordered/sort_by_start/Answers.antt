@@ -1,3 +1,4 @@
+-- What was sorted by its start is in order.
 use Rattle.std.proofs.Common.{rules}
 use Rattle.std.proofs.lemmas.List.Sorted.{IsNonDecreasingBy-from_sort_by_key}
 use Rattle.graphite_time.specs.Interval.{start_of}

@@ -1,3 +1,4 @@
+-- One list in rising order has these notes.
 use Rattle.graphite_warp.proofs.sort.sort_notes.Goals as goal
 use Rattle.graphite_warp.proofs.SortedLemmas.{sorted_is}
 

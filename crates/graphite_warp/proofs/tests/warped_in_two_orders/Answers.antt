@@ -1,3 +1,4 @@
+-- There is one list of triples, in whatever order the messages come.
 use Rattle.std.proofs.Common.{sym, ◌∙◌}
 use Rattle.graphite_part.specs.Pieces.{value_at, AreRuns}
 use Rattle.graphite_warp.specs.Warp.{warped}

@@ -1,3 +1,4 @@
+-- Lists of notes that compare equal are the same.
 use Rattle.std.proofs.lemmas.Slice.Eq.{slice_eq-Decides}
 use Rattle.graphite_warp.proofs.TripleLemmas.{eq-Decides}
 use Rattle.graphite_warp.proofs.triple.are_same.Goals as goal

@@ -1,3 +1,4 @@
+-- A prefix of what was left is moved, and the rest is left.
 use Rattle.std.proofs.Common.{◌≡◌, ◌-◌, ◌≤◌, length, take, drop, sym, ◌∙◌, ap, arith}
 use Rattle.graphite_base.specs.Ends.{Playing}
 use Rattle.graphite_base.proofs.KnownLemmas.{drop-moved, length-rest}

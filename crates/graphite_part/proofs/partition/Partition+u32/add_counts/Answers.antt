@@ -1,3 +1,4 @@
+-- What is counted by starts and ends is counted by intervals.
 use Rattle.std.proofs.Common.{◌+◌, ◌^◌, ◌<◌, length}
 use Rattle.graphite_part.proofs.PiecesLemmas.{All-from_values}
 use Rattle.graphite_part.proofs.CountLemmas.{covers-swept, fit_open, counted-seen}

@@ -1,3 +1,4 @@
+-- Nothing is cut out past the end.
 use Rattle.std.proofs.Common.{arith, ap}
 use Rattle.graphite_part.specs.Pieces.{last_end}
 use Rattle.graphite_part.proofs.CutLemmas.{cut-runs_after}

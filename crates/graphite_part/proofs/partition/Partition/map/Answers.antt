@@ -1,3 +1,4 @@
+-- The function may be called with each piece's value.
 use Rattle.graphite_part.proofs.MapLemmas.{All-from_for_some}
 use Rattle.graphite_part.proofs.partition.Partition.map.Goals as goal
 

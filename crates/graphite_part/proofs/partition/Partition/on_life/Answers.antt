@@ -1,3 +1,4 @@
+-- The pieces of a life's lifespans are a chain.
 use Rattle.std.proofs.Common.{map, ap, sym, subst, ◌∙◌}
 use Rattle.graphite_part.specs.Pieces.{AreRuns, piece_on, value_on}
 use Rattle.graphite_part.proofs.CopyLemmas.{AreRuns-life}

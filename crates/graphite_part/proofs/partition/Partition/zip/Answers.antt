@@ -1,3 +1,4 @@
+-- The pairs are runs.
 use Rattle.std.proofs.Common.{sym, subst}
 use Rattle.graphite_part.specs.Calls.{zipped}
 use Rattle.graphite_part.specs.Pieces.{value_at, AreRuns}

@@ -1,3 +1,4 @@
+-- There is room for two counts.
 use Rattle.std.proofs.Common.{◌+◌, ◌^◌, ◌<◌, lit<}
 use Rattle.graphite_part.proofs.CopyLemmas.{IfSome-life}
 use Rattle.graphite_part.proofs.partition.tests.counts_are_added.Goals as goal
