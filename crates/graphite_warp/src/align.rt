@@ -9,8 +9,9 @@ ghost use Rattle.graphite_warp.specs.Warp.{warped};
 
 use crate::ends::{next_end, sorted_ends};
 use crate::ordered::Ordered;
+use crate::triple::push_triple;
 use crate::{Message, Touch, Triple};
-use graphite_part::{Partition, Piece, Plain, append};
+use graphite_part::{Partition, Piece, Plain};
 use graphite_time::{Interval, NoMemory};
 use std::alloc::Global;
 
@@ -102,5 +103,6 @@ fn push_part<S: Plain, M: Plain>(
     if !touch.asks_for(&group) {
         return Ok(());
     }
-    append(out, Triple::new(over, state, group))
+    push_triple(out, over, state, group)?;
+    Ok(())
 }

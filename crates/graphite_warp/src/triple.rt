@@ -1,8 +1,11 @@
 //! What a warp gives: an interval, with the state and the notes at each of its instants.
-ghost use Rattle.std.specs.Prelude.{◌≡◌, ◌↔◌, IsTrue};
+ghost use Rattle.std.specs.Prelude.{◌≡◌, ◌↔◌, ◌≤◌, IsTrue, OnOk, OnErr};
+ghost use Rattle.graphite_time.specs.Interval.{start_of};
+ghost use Rattle.graphite_part.specs.Pieces.{IsChain, last_end};
+ghost use Rattle.graphite_part.specs.Fills.{Pushed};
 
-use graphite_part::{Lasting, Plain, is_same};
-use graphite_time::Interval;
+use graphite_part::{Lasting, Plain, append, is_same};
+use graphite_time::{Interval, NoMemory};
 use std::marker::Model;
 
 /// An interval at each instant of which the same state meets the same notes.
@@ -69,6 +72,22 @@ impl<S: Plain, M: Plain> Lasting for Triple<S, M> {
     fn set_interval(&mut self, over: Interval) {
         self.over = over;
     }
+}
+
+/// Adds a triple at the end. Where it touches the last one with the same state and notes, that is
+/// lengthened.
+pub(crate) fn push_triple<S: Plain, M: Plain>(
+    triples: &mut Vec<Triple<S, M>>,
+    over: Interval,
+    state: S,
+    group: Vec<M>,
+) -> Result<(), NoMemory>
+    requires chain { IsChain triples.old.items }
+    requires later { last_end triples.old.items ≤ start_of over }
+    ensures ok { OnOk result (Pushed triples.old.items triples.new.items over (state, group.items)) }
+    ensures err { OnErr result (triples.new.items ≡ triples.old.items) }
+{
+    append(triples, Triple::new(over, state, group))
 }
 
 /// Whether two lists of notes are the same.

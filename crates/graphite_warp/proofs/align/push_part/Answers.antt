@@ -9,4 +9,4 @@ returns-then-not-asks_for g c =
 
 pub returns : goal.returns
 returns g c =
-    part-pushed g.M.Ord.cmp c.args.touch c.args.out.now.items c.append.new.list.items c.args.over c.args.state c.args.messages.now c.in_ok-group.group.items c.requires.steady (search rules) (search rules) (search rules)
+    part-pushed g.M.Ord.cmp c.args.touch c.args.out.now.items c.push_triple.new.triples.items c.args.over c.args.state c.args.messages.now c.in_ok-group.group.items c.requires.steady (search rules) (search rules) (search rules)
