@@ -10,7 +10,8 @@ use Rattle.graphite_props.specs.Properties.{property}
 use Rattle.graphite_graph.specs.declared.fault.Fault.{Fault}
 use Rattle.graphite_graph.specs.declared.fault.Fault.TheVariants.{Rule, NoMemory}
 use Rattle.graphite_graph.specs.Ends.{with_vertex_property, with_edge_property}
-use Rattle.graphite_graph.specs.Step.{after_form, form_broken, owner_broken, vertex_property_broken, edge_property_broken, IsOpen, ExplainsRecord, ExplainsRule}
+use Rattle.graphite_text.specs.Step.{broken_by_form}
+use Rattle.graphite_graph.specs.Step.{after_form, owner_broken, vertex_property_broken, edge_property_broken, IsOpen, ExplainsRecord, ExplainsRule}
 
 abbrev is_ordered : Known → Span → Bool
 is_ordered known over = nat_lt over.a over.b && nat_le over.b known.graph.horizon
@@ -48,7 +49,7 @@ vertex_property-unowned known owner key over value rule interval same ordered br
 vertex_property-owned : (known : Known) (owner key : List ℕ) (over : Span) (value v : ℕ) (interval : Interval)
     → as_span interval ≡ over → true ≡ is_ordered known over → vertex_number known.graph owner ≡ Some v
     → ((key : List ℕ) (value : ℕ) → owner_broken known (VertexProperty owner key (as_span interval) value) ≡ None)
-    → form_broken known (VertexProperty owner key over value) ≡ vertex_property_broken known v key (as_span interval)
+    → broken_by_form known (VertexProperty owner key over value) ≡ vertex_property_broken known v key (as_span interval)
 vertex_property-owned known owner key over value v interval same ordered is_owner kept =
     let form = VertexProperty owner key over value in
     let rest = vertex_property_broken known (unwrap_or (vertex_number known.graph owner) 0) key over in
@@ -78,11 +79,11 @@ after_form-vertex_property (Ok u) known next owner key over value v interval sam
     ∙ ap Ok (known_with-vertex_property known owner key over value v interval same open_still is_owner ∙ sym grown)
 after_form-vertex_property (Err e) known next owner key over value v interval same ordered open_still is_owner kept unbroken grown = tt
 
-explains : (known : Known) (form : Form) (broken : Option ℕ) (fault : Fault) → form_broken known form ≡ broken → ExplainsRule broken fault → ExplainsRecord known form fault
+explains : (known : Known) (form : Form) (broken : Option ℕ) (fault : Fault) → broken_by_form known form ≡ broken → ExplainsRule broken fault → ExplainsRecord known form fault
 explains known form broken (Rule rule) e h = ap (λ b. checked b (known_with known form)) (e ∙ h)
 explains known form broken NoMemory e h = tt
 
-explained : {X : Type 0} (r : Result X Fault) (known : Known) (form : Form) (broken : Option ℕ) → form_broken known form ≡ broken
+explained : {X : Type 0} (r : Result X Fault) (known : Known) (form : Form) (broken : Option ℕ) → broken_by_form known form ≡ broken
     → IfErr r (ExplainsRule broken) → IfErr r (ExplainsRecord known form)
 explained (Ok x) known form broken e h = tt
 explained (Err fault) known form broken e h = explains known form broken fault e h
@@ -111,7 +112,7 @@ edge_property-unowned known owner key over value rule interval same ordered brok
 edge_property-owned : (known : Known) (owner key : List ℕ) (over : Span) (value e : ℕ) (interval : Interval)
     → as_span interval ≡ over → true ≡ is_ordered known over → edge_number known.graph owner ≡ Some e
     → ((key : List ℕ) (value : ℕ) → owner_broken known (EdgeProperty owner key (as_span interval) value) ≡ None)
-    → form_broken known (EdgeProperty owner key over value) ≡ edge_property_broken known e key (as_span interval) value
+    → broken_by_form known (EdgeProperty owner key over value) ≡ edge_property_broken known e key (as_span interval) value
 edge_property-owned known owner key over value e interval same ordered is_owner kept =
     let form = EdgeProperty owner key over value in
     let rest = edge_property_broken known (unwrap_or (edge_number known.graph owner) 0) key over value in

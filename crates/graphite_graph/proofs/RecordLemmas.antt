@@ -9,7 +9,8 @@ use Rattle.graphite_graph.specs.declared.ends.Ends.{Ends}
 use Rattle.graphite_graph.specs.Ends.{with_edge}
 use Rattle.graphite_text.specs.Spans.{as_span}
 use Rattle.graphite_graph.proofs.StoreLemmas.{taken as taken_lem}
-use Rattle.graphite_graph.specs.Step.{after_form, form_broken, place_broken, IsOpen}
+use Rattle.graphite_text.specs.Step.{broken_by_form}
+use Rattle.graphite_graph.specs.Step.{after_form, place_broken, IsOpen}
 
 abbrev is_ordered : Known → Span → Bool
 is_ordered known over = nat_lt over.a over.b && nat_le over.b known.graph.horizon
@@ -17,10 +18,10 @@ is_ordered known over = nat_lt over.a over.b && nat_le over.b known.graph.horizo
 abbrev edge_broken : (ordered taken : Bool) → Option ℕ → Option ℕ
 edge_broken ordered taken placed = if not ordered then Some 6 else (if taken then Some 7 else placed)
 
-form_broken-edge : (known : Known) (name from to : List ℕ) (over : Span)
-    → form_broken known (Edge name from to over)
+broken_by_form-edge : (known : Known) (name from to : List ℕ) (over : Span)
+    → broken_by_form known (Edge name from to over)
     ≡ edge_broken (is_ordered known over) (is_some (edge_number known.graph name)) (place_broken known (Edge name from to over))
-form_broken-edge known name from to over = refl
+broken_by_form-edge known name from to over = refl
 
 -- an edge that cannot be placed breaks rule 7 where its name is taken
 pub after_form-unplaced : (known : Known) (name from to : List ℕ) (over : Span) (interval : Interval) (taken : Bool) (rule out : ℕ)

@@ -4,10 +4,11 @@ use Rattle.std.proofs.lemmas.Bool.{false≢true}
 use Rattle.std.specs.Option.{option_map_or}
 use Rattle.graphite_text.specs.Lines.{TextLine, fields_of}
 use Rattle.graphite_text.specs.Forms.{Shape, Form, Header, Vertex, Edge, VertexProperty, EdgeProperty, End, is_line, is_skipped, shape_of, has_names, form_of, line_form, shape_form, numbers_form}
-use Rattle.graphite_text.specs.Reading.{Known, breaks_header, breaks_order, breaks_new_name, breaks_declared, breaks_ends, breaks_owner, breaks_apart, breaks_travel, breaks_limit, known_with, checked, after_line, is_header, is_no_header}
+use Rattle.graphite_text.specs.Reading.{Known, breaks_header, breaks_order, breaks_new_name, breaks_declared, breaks_ends, breaks_owner, breaks_apart, breaks_travel, breaks_limit, known_with, checked, after_line, is_header, is_wrong_start}
 use Rattle.graphite_graph.specs.declared.fault.Fault.{Fault}
 use Rattle.graphite_graph.specs.declared.fault.Fault.TheVariants.{Rule, NoMemory}
-use Rattle.graphite_graph.specs.Step.{ExplainsRecord, ExplainsLine, form_broken, after_form, misplaced, is_header_form, IsPlaced}
+use Rattle.graphite_text.specs.Step.{broken_by_form}
+use Rattle.graphite_graph.specs.Step.{ExplainsRecord, ExplainsLine, after_form, misplaced, is_header_form, IsPlaced}
 use Rattle.graphite_graph.proofs.LineLemmas.{SaysForm, says_form, says_nothing, form-word, word_of}
 
 -- the line, which is ended
@@ -52,11 +53,11 @@ after_line-skipped known line e =
     (λ i. stepped (says.0 i) (says.1 i) known.ended (breaks_header known (whole line)) (shape_of (fields_of line)) (option_and_then form_of (shape_of (fields_of line))) known)
 
 stepped-record : (known : Known) (line : List ℕ) (form : Form) → SaysForm line form
-    → after_line known (whole line) ≡ checked (if known.ended then Some 15 else (if breaks_header known (whole line) then Some 2 else form_broken known form)) (known_with known form)
+    → after_line known (whole line) ≡ checked (if known.ended then Some 15 else (if breaks_header known (whole line) then Some 2 else broken_by_form known form)) (known_with known form)
 stepped-record known line form says =
     (λ i. stepped (says.is_formed i) (says.is_record i) known.ended (breaks_header known (whole line)) (says.has_shape i) (option_and_then form_of (says.has_shape i)) known)
     ∙ (λ i. stepped true false known.ended (breaks_header known (whole line)) (Some says.shape) (says.has_form i) known)
-    ∙ (λ i. checked (if known.ended then Some 15 else (if breaks_header known (whole line) then Some 2 else (if not (says.is_named i) then Some 4 else form_broken known form))) (known_with known form))
+    ∙ (λ i. checked (if known.ended then Some 15 else (if breaks_header known (whole line) then Some 2 else (if not (says.is_named i) then Some 4 else broken_by_form known form))) (known_with known form))
 
 abbrev place_rule : (ended header : Bool) → Option ℕ
 place_rule ended header = if ended then Some 15 else (if header then Some 2 else None)
@@ -77,7 +78,7 @@ pub after_line-misplaced : (known : Known) (line : List ℕ) (form : Form) (rule
     → after_line known (whole line) ≡ Err rule
 after_line-misplaced known line form rule e out =
     stepped-record known line form (says_form line form e)
-    ∙ ap (λ broken. checked broken (known_with known form)) (placed_first known.ended (breaks_header known (whole line)) rule (form_broken known form) out)
+    ∙ ap (λ broken. checked broken (known_with known form)) (placed_first known.ended (breaks_header known (whole line)) rule (broken_by_form known form) out)
 
 -- a record in its place
 pub after_line-placed : (known : Known) (line : List ℕ) (form : Form) → line_form line ≡ Ok (Some form) → misplaced known line ≡ None
@@ -85,15 +86,15 @@ pub after_line-placed : (known : Known) (line : List ℕ) (form : Form) → line
 after_line-placed known line form e placed =
     let here = unplaced known.ended (breaks_header known (whole line)) placed in
     stepped-record known line form (says_form line form e)
-    ∙ (λ i. checked (if here.0 i then Some 15 else (if here.1 i then Some 2 else form_broken known form)) (known_with known form))
+    ∙ (λ i. checked (if here.0 i then Some 15 else (if here.1 i then Some 2 else broken_by_form known form)) (known_with known form))
 
-is_no_header-word : (form : Form) (fields rest : List (List ℕ)) → fields ≡ word_of form ∷ rest → is_no_header fields ≡ false → is_header_form form ≡ true
-is_no_header-word (Header version horizon) fields rest e h = refl
-is_no_header-word (Vertex name over) fields rest e h = absurd (false≢true (sym h ∙ ap is_no_header e))
-is_no_header-word (Edge name from to over) fields rest e h = absurd (false≢true (sym h ∙ ap is_no_header e))
-is_no_header-word (VertexProperty owner key over value) fields rest e h = absurd (false≢true (sym h ∙ ap is_no_header e))
-is_no_header-word (EdgeProperty owner key over value) fields rest e h = absurd (false≢true (sym h ∙ ap is_no_header e))
-is_no_header-word End fields rest e h = absurd (false≢true (sym h ∙ ap is_no_header e))
+is_wrong_start-word : (form : Form) (fields rest : List (List ℕ)) → fields ≡ word_of form ∷ rest → is_wrong_start fields ≡ false → is_header_form form ≡ true
+is_wrong_start-word (Header version horizon) fields rest e h = refl
+is_wrong_start-word (Vertex name over) fields rest e h = absurd (false≢true (sym h ∙ ap is_wrong_start e))
+is_wrong_start-word (Edge name from to over) fields rest e h = absurd (false≢true (sym h ∙ ap is_wrong_start e))
+is_wrong_start-word (VertexProperty owner key over value) fields rest e h = absurd (false≢true (sym h ∙ ap is_wrong_start e))
+is_wrong_start-word (EdgeProperty owner key over value) fields rest e h = absurd (false≢true (sym h ∙ ap is_wrong_start e))
+is_wrong_start-word End fields rest e h = absurd (false≢true (sym h ∙ ap is_wrong_start e))
 
 is_header-word : (form : Form) (fields rest : List (List ℕ)) → fields ≡ word_of form ∷ rest → is_header fields ≡ false → is_header_form form ≡ false
 is_header-word (Header version horizon) fields rest e h = absurd (false≢true (sym h ∙ ap is_header e))
@@ -104,9 +105,9 @@ is_header-word (EdgeProperty owner key over value) fields rest e h = refl
 is_header-word End fields rest e h = refl
 
 first_or_later : (started : Bool) (form : Form) (fields rest : List (List ℕ)) → fields ≡ word_of form ∷ rest
-    → (if started then is_header fields else is_no_header fields) ≡ false → started ≡ not (is_header_form form)
+    → (if started then is_header fields else is_wrong_start fields) ≡ false → started ≡ not (is_header_form form)
 first_or_later true form fields rest e h = sym (ap not (is_header-word form fields rest e h))
-first_or_later false form fields rest e h = sym (ap not (is_no_header-word form fields rest e h))
+first_or_later false form fields rest e h = sym (ap not (is_wrong_start-word form fields rest e h))
 
 pub is_placed : (known : Known) (line : List ℕ) (form : Form) → line_form line ≡ Ok (Some form) → misplaced known line ≡ None → IsPlaced known form
 is_placed known line form e placed =

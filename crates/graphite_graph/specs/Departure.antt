@@ -3,6 +3,7 @@ use Rattle.std.specs.Prelude.{ℕ, ◌≤◌, ◌<◌, ◌&&◌, ◌==◌, List,
 use Rattle.std.specs.List.{All}
 use Rattle.graphite_text.specs.Graph.{PlainGraph, edge_life, edge_is_alive}
 use Rattle.graphite_graph.specs.declared.departure.Departure.{Departure}
+use Rattle.graphite_text.specs.declared.limits.TheConstants.{EDGE_LIMIT}
 
 -- how many departures from the vertex have an edge that is alive at the instant
 abbrev pub departing : PlainGraph → List Departure → ℕ → ℕ → ℕ
@@ -24,4 +25,4 @@ HasEdge graph departure = departure.edge < length graph.edges
 -- departures of edges of the graph, which together have no more lifespans than a graph's edges may
 pub record HaveEdges (graph : PlainGraph) (departures : List Departure) : Type 0 where
   pub in_range : All (HasEdge graph) departures
-  pub few : departing_lifespans graph departures ≤ 2097152
+  pub few : departing_lifespans graph departures ≤ EDGE_LIMIT

@@ -1,68 +1,58 @@
--- One record against the rules on records, where the rules on lines, headers and fields are kept.
-use Rattle.std.specs.Prelude.{◌≡◌, ℕ, ◌≤◌, nat_le, ◌==◌, ◌&&◌, List, codes, Bool, true, false, not, Option, Some, None, Result, Err, if◌then◌else◌, ⊤}
+-- For private functions and proofs alone: one record against the rules on records, where the rules on
+-- lines, headers and fields are kept.
+use Rattle.std.specs.Prelude.{◌≡◌, ℕ, ◌≤◌, nat_le, ◌==◌, ◌&&◌, List, [], ◌∷◌, codes, Bool, true, false, not, Option, Some, None, Result, Err, if◌then◌else◌, ⊤}
 use Rattle.std.specs.Str.{bytes_eq}
 use Rattle.graphite_time.specs.declared.TheConstants.{LAST}
+use Rattle.graphite_text.specs.declared.limits.TheConstants.{PROPERTY_LIMIT}
+use Rattle.graphite_text.specs.declared.rules.TheConstants.{HEADER_RULE, DECLARED_RULE, ENDS_RULE, OWNER_RULE, OVERLAP_RULE, TRAVEL_RULE, LIMIT_RULE, AFTER_END_RULE}
 use Rattle.graphite_text.specs.declared.span.Span.{Span}
 use Rattle.graphite_text.specs.Forms.{Form, Header}
 use Rattle.graphite_text.specs.Lines.{TextLine}
-use Rattle.graphite_text.specs.Reading.{Known, breaks_order, breaks_new_name, breaks_declared, breaks_ends, breaks_owner, breaks_apart, breaks_travel, breaks_limit, breaks_header, is_apart, property_count, known_with, checked, after_line}
+use Rattle.graphite_text.specs.Reading.{Known, first_broken, breaks_declared, breaks_ends, breaks_owner, breaks_limit, breaks_header, is_apart, property_count, known_with, checked, after_line}
+use Rattle.graphite_text.specs.Step.{broken_by_form}
 use Rattle.graphite_props.specs.declared.fault.AddFault.{AddFault}
 use Rattle.graphite_props.specs.declared.fault.AddFault.TheVariants as added
 use Rattle.graphite_graph.specs.declared.fault.Fault.{Fault}
 use Rattle.graphite_graph.specs.declared.fault.Fault.TheVariants.{Rule, NoMemory}
 
--- the least of the rules 6 to 13 that a record breaks
-abbrev pub form_broken : Known → Form → Option ℕ
-form_broken known form =
-    if breaks_order known form then Some 6
-    else (if breaks_new_name known form then Some 7
-    else (if breaks_declared known form then Some 8
-    else (if breaks_ends known form then Some 9
-    else (if breaks_owner known form then Some 10
-    else (if breaks_apart known form then Some 11
-    else (if breaks_travel known form then Some 12
-    else (if breaks_limit known form then Some 13 else None)))))))
-
--- what is known after a record, or the least of those rules that it breaks
+-- what is known after a record, or the least of the rules on what it says that it breaks
 abbrev pub after_form : Known → Form → Result Known ℕ
-after_form known form = checked (form_broken known form) (known_with known form)
+after_form known form = checked (broken_by_form known form) (known_with known form)
 
--- the least of the rules 8, 9 and 13 that a record breaks
+-- the least of the rules on what is declared, on ends and on limits that a record breaks
 abbrev pub place_broken : Known → Form → Option ℕ
 place_broken known form =
-    if breaks_declared known form then Some 8
-    else (if breaks_ends known form then Some 9
-    else (if breaks_limit known form then Some 13 else None))
+    first_broken ((DECLARED_RULE, breaks_declared) ∷ (ENDS_RULE, breaks_ends) ∷ (LIMIT_RULE, breaks_limit) ∷ []) known form
 
--- the least of the rules 8 and 10 that a property breaks
+-- the least of the rules on what is declared and on owners that a property breaks
 abbrev pub owner_broken : Known → Form → Option ℕ
-owner_broken known form = if breaks_declared known form then Some 8 else (if breaks_owner known form then Some 10 else None)
+owner_broken known form = first_broken ((DECLARED_RULE, breaks_declared) ∷ (OWNER_RULE, breaks_owner) ∷ []) known form
 
 -- there are as many properties as there may be
 abbrev pub is_full : Known → Bool
-is_full known = nat_le 4194304 (property_count known.graph)
+is_full known = nat_le PROPERTY_LIMIT (property_count known.graph)
 
--- the least of the rules 11 and 13 that a property of this vertex breaks
+-- the least of the rules on overlaps and limits that a property of this vertex breaks
 abbrev pub vertex_property_broken : Known → ℕ → List ℕ → Span → Option ℕ
 vertex_property_broken known v key over =
-    if not (is_apart known.graph.vertex_properties v key over) then Some 11 else (if is_full known then Some 13 else None)
+    if not (is_apart known.graph.vertex_properties v key over) then Some OVERLAP_RULE else (if is_full known then Some LIMIT_RULE else None)
 
 -- a travel time of 0
 abbrev pub is_stopped : List ℕ → ℕ → Bool
 is_stopped key value = bytes_eq key (codes "time") && (value == 0)
 
--- the least of the rules 12 and 13 that a property of an edge breaks
+-- the least of the rules on travel times and limits that a property of an edge breaks
 abbrev pub late_broken : Known → List ℕ → ℕ → Option ℕ
-late_broken known key value = if is_stopped key value then Some 12 else (if is_full known then Some 13 else None)
+late_broken known key value = if is_stopped key value then Some TRAVEL_RULE else (if is_full known then Some LIMIT_RULE else None)
 
--- the least of the rules 11 to 13 that a property of this edge breaks
+-- the least of the rules on overlaps, travel times and limits that a property of this edge breaks
 abbrev pub edge_property_broken : Known → ℕ → List ℕ → Span → ℕ → Option ℕ
 edge_property_broken known e key over value =
-    if not (is_apart known.graph.edge_properties e key over) then Some 11 else late_broken known key value
+    if not (is_apart known.graph.edge_properties e key over) then Some OVERLAP_RULE else late_broken known key value
 
 -- the fault of a property that is not added
 abbrev pub fault_of_add : AddFault → Fault
-fault_of_add added.Overlap = Rule 11
+fault_of_add added.Overlap = Rule OVERLAP_RULE
 fault_of_add added.NoMemory = NoMemory
 
 -- what a fault says where this is the least rule that is broken
@@ -74,7 +64,8 @@ ExplainsRule broken NoMemory = ⊤
 -- none may be, or it is none where one must be
 abbrev pub misplaced : Known → List ℕ → Option ℕ
 misplaced known line =
-    if known.ended then Some 15 else (if breaks_header known (record { bytes = line; ended = true }) then Some 2 else None)
+    if known.ended then Some AFTER_END_RULE
+    else (if breaks_header known (record { bytes = line; ended = true }) then Some HEADER_RULE else None)
 
 -- a record was read, and `end` was not
 pub record IsOpen (known : Known) : Type 0 where

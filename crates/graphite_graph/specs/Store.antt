@@ -2,6 +2,7 @@
 use Rattle.std.specs.Prelude.{◌≡◌, ℕ, ◌<◌, ◌≤◌, List, [], ◌∷◌, length, map, sum_by, All}
 use Rattle.graphite_time.specs.declared.interval.Interval.{Interval}
 use Rattle.graphite_time.specs.Life.{IsLife}
+use Rattle.graphite_text.specs.declared.limits.TheConstants.{VERTEX_LIMIT, EDGE_LIMIT}
 use Rattle.graphite_text.specs.Graph.{PlainVertex, PlainEdge, PlainProperty}
 use Rattle.graphite_graph.specs.declared.ends.Ends.{Ends}
 use Rattle.graphite_text.specs.Spans.{as_span}
@@ -31,14 +32,14 @@ IsLifeBy horizon life = IsLife life × EndsBy horizon life
 
 -- the parts of the vertices belong together
 pub record AreVertices (horizon : ℕ) (names : List (List ℕ)) (lives : List (List Interval)) : Type 0 where
-  pub in_limit : length names ≤ 1048576
+  pub in_limit : length names ≤ VERTEX_LIMIT
   pub in_step : length lives ≡ length names
   pub one_each : sum_by length lives ≡ length names
   pub are_lives : All (IsLifeBy horizon) lives
 
 -- the parts of the edges belong together
 pub record AreEdges (horizon count : ℕ) (names : List (List ℕ)) (ends : List Ends) (lives : List (List Interval)) : Type 0 where
-  pub in_limit : length names ≤ 2097152
+  pub in_limit : length names ≤ EDGE_LIMIT
   pub ends_in_step : length ends ≡ length names
   pub in_step : length lives ≡ length names
   pub one_each : sum_by length lives ≡ length names

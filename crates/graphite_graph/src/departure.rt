@@ -2,6 +2,7 @@
 ghost use Rattle.std.specs.Prelude.{◌≡◌, ◌+◌, ◌<◌, ◌≤◌, ℕ, vec_len, OnOk, IfOk};
 ghost use Rattle.std.specs.List.Sorted.{IsPermutation};
 ghost use Rattle.graphite_part.specs.Counts.{covers_at};
+ghost use Rattle.graphite_text.specs.declared.limits.TheConstants.{EDGE_LIMIT};
 ghost use Rattle.graphite_text.specs.Graph.{out_degree};
 
 use crate::Graph;
@@ -64,7 +65,7 @@ pub(crate) fn take_covers<'d>(
     requires ordered { GoFrom v departures.now }
     requires edges { HaveEdges graph.now departures.now }
     ensures covers { OnOk result ((t : ℕ) → covers_at covers.new.items t ≡ departing graph.now departures.now v t) }
-    ensures few { OnOk result (vec_len covers.new ≤ 2097152) }
+    ensures few { OnOk result (vec_len covers.new ≤ EDGE_LIMIT) }
     ensures ordered { IfOk result (λ rest. GoFrom (v + 1) rest.now) }
     ensures edges { IfOk result (λ rest. HaveEdges graph.now rest.now) }
     ensures others { IfOk result (λ rest. (w t : ℕ) → v < w

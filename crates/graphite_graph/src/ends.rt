@@ -1,3 +1,4 @@
+//! The two ends of an edge.
 /// The vertices that an edge leads from and to, by their numbers.
 #[derive(Clone, Copy, Debug, PartialEq, Eq)]
 pub struct Ends {

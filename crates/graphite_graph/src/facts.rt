@@ -1,3 +1,4 @@
+//! The facts of vertices, and what is made of them.
 ghost use Rattle.std.specs.Prelude.{◌≡◌, ◌<◌, ◌^◌, ℕ, length, vec_len, slice_index_or, [], IfOk};
 ghost use Rattle.std.specs.Option.{ForSome};
 ghost use Rattle.graphite_time.specs.Life.{IsLife};
@@ -22,11 +23,11 @@ pub struct Ask {
 }
 
 /// What holds of a vertex at an instant of its life.
-#[derive(Clone, Copy, Debug, PartialEq, Eq, PartialOrd, Ord)]
+#[derive(Clone, Copy, Debug, PartialEq, Eq, PartialOrd, Ord, Default)]
 pub struct Facts {
     /// Its number.
     pub vertex: u32,
-    /// How many edges that are alive lead out of it, at most 2,097,152; 0 where that is not asked.
+    /// How many edges that are alive lead out of it, at most [`graphite_text::EDGE_LIMIT`]; 0 where that is not asked.
     pub outdegree: u32,
     /// How many vertices are alive; 0, since no program asks for it yet.
     pub n: u32,
@@ -72,7 +73,7 @@ impl<'a> Graph<'a> {
         ensures facts { IfOk result (λ facts. (v : ℕ) → v < length self.now.vertices
             → AreRuns (facts_at self.now ask.now v) (slice_index_or facts.items v [])) }
     {
-        self.map_facts(self.allocator(), ask, &|facts: Facts| facts)
+        self.map_facts(ask, &|facts: Facts| facts)
     }
 
     /// For each vertex, in the order of their numbers, what `f` makes of its facts, at exactly the
@@ -80,7 +81,6 @@ impl<'a> Graph<'a> {
     /// life. Where out-degrees are not asked no edge is looked at. Refused only where memory is short.
     pub fn map_facts<T: Plain, F: Fn(Facts) -> T>(
         &self,
-        alloc: Global,
         ask: &Ask,
         f: &F,
     ) -> Result<Vec<Partition<T>>, NoMemory>
@@ -89,6 +89,7 @@ impl<'a> Graph<'a> {
         ensures made { IfOk result (λ made. (v : ℕ) → v < length self.now.vertices
             → AreMadeOf (F.post f.now) (facts_at self.now ask.now v) (slice_index_or made.items v [])) }
     {
+        let alloc = self.allocator();
         let departures = asked_departures(alloc, self, ask)?;
         made_from(alloc, self, ask, &departures, f)
     }

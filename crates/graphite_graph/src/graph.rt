@@ -1,8 +1,10 @@
-ghost use Rattle.std.specs.Prelude.{◌≡◌, ◌<◌, ◌≤◌, ◌++◌, ℕ, Some, length, map, IsTrue, IfSome, OnOk, OnErr};
+//! A graph as its callers see it.
+ghost use Rattle.std.specs.Prelude.{◌≡◌, ◌<◌, ◌≤◌, ◌++◌, ℕ, Some, false, length, map, option_map, IsTrue, IfSome, OnOk, OnErr};
 ghost use Rattle.graphite_time.specs.declared.TheConstants.{LAST};
-ghost use Rattle.graphite_time.specs.Life.{IsLife};
+ghost use Rattle.graphite_time.specs.Life.{lifespan_at, IsLife};
 ghost use Rattle.graphite_text.specs.Canonical.{canonical_text};
-ghost use Rattle.graphite_text.specs.Graph.{vertex_life, edge_life, vertex_number, edge_number, vertex_is_alive, edge_is_alive, travel_time};
+ghost use Rattle.graphite_text.specs.declared.limits.TheConstants.{VERTEX_LIMIT, EDGE_LIMIT};
+ghost use Rattle.graphite_text.specs.Graph.{vertex_life, edge_life, vertex_number, edge_number, vertex_is_alive, edge_is_alive, lifespan_at as lifespan_at_instant, travel_time};
 ghost use Rattle.graphite_text.specs.Reading.{Accepted, reading_of};
 ghost use Rattle.graphite_text.specs.Spans.{as_span};
 ghost use Rattle.graphite_graph.specs.Life.{EndsBy};
@@ -62,35 +64,37 @@ impl<'a> Graph<'a> {
         self.store.show(into)
     }
 
-    /// The instant after the last, at most [`graphite_time::LAST`]. No lifespan ends after it.
+    /// The instant after the last, at most [`graphite_time::LAST`]. Nothing lives from it on.
     pub fn horizon(&self) -> u64
         ensures horizon { result ≡ self.now.horizon }
         ensures in_range { result ≤ LAST }
+        ensures ended { (v t : ℕ) → v < length self.now.vertices → self.now.horizon ≤ t
+            → vertex_is_alive self.now v t ≡ false }
     {
         self.store.horizon()
     }
 
-    /// How many vertices there are, at most 1,048,576.
+    /// How many vertices there are, at most [`graphite_text::VERTEX_LIMIT`].
     pub fn vertices(&self) -> u32
         ensures count { result ≡ length self.now.vertices }
-        ensures in_range { result ≤ 1048576 }
+        ensures in_range { result ≤ VERTEX_LIMIT }
     {
         self.store.vertices()
     }
 
-    /// How many edges there are, at most 2,097,152. Together they have no more lifespans.
+    /// How many edges there are, at most [`graphite_text::EDGE_LIMIT`]. Together they have no more lifespans.
     pub fn edges(&self) -> u32
         ensures count { result ≡ length self.now.edges }
-        ensures in_range { result ≤ 2097152 }
-        ensures lifespans { edge_lifespan_count self.now ≤ 2097152 }
+        ensures in_range { result ≤ EDGE_LIMIT }
+        ensures lifespans { edge_lifespan_count self.now ≤ EDGE_LIMIT }
     {
         self.store.edges()
     }
 
-    /// How many lifespans the vertices have together, at most 1,048,576.
+    /// How many lifespans the vertices have together, at most [`graphite_text::VERTEX_LIMIT`].
     pub fn lifespans(&self) -> u32
         ensures count { result ≡ lifespan_count self.now }
-        ensures in_range { result ≤ 1048576 }
+        ensures in_range { result ≤ VERTEX_LIMIT }
     {
         self.store.lifespans()
     }
@@ -111,20 +115,24 @@ impl<'a> Graph<'a> {
         self.store.edge_name(e)
     }
 
-    /// When a vertex is alive.
+    /// When a vertex is alive: its lifespan at an instant is the plain graph's.
     pub fn vertex_life(&self, v: u32) -> &Life
         requires { v < length self.now.vertices }
         ensures life { map as_span result.now ≡ vertex_life self.now v }
+        ensures lifespans { (t : ℕ) → option_map as_span (lifespan_at result.now t)
+            ≡ lifespan_at_instant (vertex_life self.now v) t }
         ensures gaps { IsLife result.now }
         ensures in_range { EndsBy self.now.horizon result.now }
     {
         self.store.vertex_life(v)
     }
 
-    /// When an edge is alive.
+    /// When an edge is alive: its lifespan at an instant is the plain graph's.
     pub fn edge_life(&self, e: u32) -> &Life
         requires { e < length self.now.edges }
         ensures life { map as_span result.now ≡ edge_life self.now e }
+        ensures lifespans { (t : ℕ) → option_map as_span (lifespan_at result.now t)
+            ≡ lifespan_at_instant (edge_life self.now e) t }
         ensures gaps { IsLife result.now }
         ensures in_range { EndsBy self.now.horizon result.now }
     {

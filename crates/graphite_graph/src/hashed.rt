@@ -1,3 +1,4 @@
+//! Names in a table of hashes.
 ghost use Rattle.std.specs.Prelude.{◌≡◌, ◌<◌, ◌^◌, [], ◌∷◌, ◌++◌, Some, slice_get, length, position, is_none, if◌then◌else◌, true, IfSome, IfOk, OnErr};
 ghost use Rattle.std.specs.Str.{bytes_eq};
 

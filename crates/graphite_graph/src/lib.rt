@@ -21,7 +21,6 @@ pub use facts::{Ask, Facts};
 pub use graph::Graph;
 pub use names::Names;
 pub use reading::{LoadFault, load};
-pub use store::{EDGE_LIMIT, PROPERTY_LIMIT, VERTEX_LIMIT};
 
 #[cfg(test)]
 mod tests;

@@ -1,3 +1,4 @@
+//! Names by their numbers, kept in one of two ways.
 ghost use Rattle.std.specs.Prelude.{◌≡◌, ◌<◌, ◌^◌, [], ◌∷◌, ◌++◌, Some, slice_get, length, position, is_none, if◌then◌else◌, IfSome, IfOk, OnErr};
 ghost use Rattle.std.specs.Str.{bytes_eq};
 

@@ -1,6 +1,9 @@
+//! The reading of a text, one line after the other.
 ghost use Rattle.std.specs.Prelude.{◌≡◌, ◌==◌, ◌&&◌, ◌≤◌, ◌<◌, ℕ, List, length, true, [], None, Some, Ok, is_some, nat_lt, nat_le, unwrap_or, if◌then◌else◌, IfSome, IfErr, OnOk, IfOk, IfNone};
 ghost use Rattle.graphite_time.specs.declared.TheConstants.{LAST};
 ghost use Rattle.graphite_time.specs.Interval.{end_of};
+ghost use Rattle.graphite_text.specs.declared.limits.TheConstants.{EDGE_LIMIT};
+ghost use Rattle.graphite_text.specs.declared.rules.TheConstants.{LINE_RULE, NEW_NAME_RULE, OVERLAP_RULE};
 ghost use Rattle.graphite_text.specs.Forms.{Vertex, Edge, VertexProperty, EdgeProperty, line_form};
 ghost use Rattle.graphite_text.specs.Graph.{vertex_number, edge_number};
 ghost use Rattle.graphite_text.specs.Line.{text_line};
@@ -13,12 +16,13 @@ ghost use Rattle.graphite_graph.specs.Store.{AreAmong};
 ghost use Rattle.graphite_graph.specs.Step.{after_form, place_broken, owner_broken, vertex_property_broken, edge_property_broken, late_broken, is_full, is_stopped, misplaced, IsOpen, IsPlaced, ExplainsRecord, ExplainsRule, ExplainsLine};
 
 use crate::ends::Ends;
-use crate::fault::{
-    AFTER_END_RULE, DECLARED_RULE, ENDS_RULE, Fault, HEADER_RULE, LIMIT_RULE, LINE_RULE,
-    NEW_NAME_RULE, ORDER_RULE, OVERLAP_RULE, OWNER_RULE, TRAVEL_RULE,
+use crate::fault::Fault;
+use crate::store::Store;
+use graphite_text::{
+    AFTER_END_RULE, DECLARED_RULE, EDGE_LIMIT, ENDS_RULE, HEADER_RULE, LIMIT_RULE, LINE_RULE, Line,
+    NEW_NAME_RULE, ORDER_RULE, OVERLAP_RULE, OWNER_RULE, PROPERTY_LIMIT, Record, Span, TRAVEL_RULE,
+    VERTEX_LIMIT, is_header, is_wrong_start, record_of,
 };
-use crate::store::{EDGE_LIMIT, PROPERTY_LIMIT, Store, VERTEX_LIMIT};
-use graphite_text::{Line, Record, Span, is_header, is_no_header, record_of};
 use graphite_time::Interval;
 use std::alloc::Global;
 use std::marker::Model;
@@ -58,14 +62,14 @@ fn interval_by(over: Span, horizon: u64) -> Option<Interval>
 
 /// The rule that a name which is taken breaks, or else another.
 fn name_rule_or(taken: bool, rule: u8) -> u8
-    ensures { result ≡ (if taken then 7 else rule) }
+    ensures { result ≡ (if taken then NEW_NAME_RULE else rule) }
 {
     if taken { NEW_NAME_RULE } else { rule }
 }
 
 /// The rule that a property which overlaps an earlier one breaks, or else another.
 fn overlap_rule_or(overlaps: bool, rule: u8) -> u8
-    ensures { result ≡ (if overlaps then 11 else rule) }
+    ensures { result ≡ (if overlaps then OVERLAP_RULE else rule) }
 {
     if overlaps { OVERLAP_RULE } else { rule }
 }
@@ -114,7 +118,7 @@ impl<'a> Reader<'a> {
 
     /// The least rule that a line breaks, where by its form alone it breaks this one.
     fn least_rule(&self, line: &[u8], rule: u8) -> u8
-        ensures { result ≡ (if rule == 1 then 1 else unwrap_or (misplaced self.now line.now) rule) }
+        ensures { result ≡ (if rule == LINE_RULE then LINE_RULE else unwrap_or (misplaced self.now line.now) rule) }
     {
         if rule == LINE_RULE {
             return rule;
@@ -132,7 +136,7 @@ impl<'a> Reader<'a> {
         let is_broken = if self.started {
             is_header(line)
         } else {
-            is_no_header(line)
+            is_wrong_start(line)
         };
         is_broken.then_some(HEADER_RULE)
     }
@@ -228,12 +232,13 @@ impl<'a> Reader<'a> {
         }
     }
 
-    /// The ends of an edge, or the least of the rules 8, 9 and 13 that it breaks.
+    /// The ends of an edge, or the least of the rules on what is declared, on ends and on limits that
+    /// it breaks.
     fn place_of(&self, from: &[u8], to: &[u8], over: Interval) -> Result<Ends, u8>
         ensures from { IfOk result (λ ends. vertex_number self.now.graph from.now ≡ Some ends.from) }
         ensures to { IfOk result (λ ends. vertex_number self.now.graph to.now ≡ Some ends.to) }
         ensures among { IfOk result (AreAmong (length self.now.graph.vertices)) }
-        ensures room { OnOk result (length self.now.graph.edges < 2097152) }
+        ensures room { OnOk result (length self.now.graph.edges < EDGE_LIMIT) }
         ensures kept { OnOk result ((name : List ℕ) → place_broken self.now (Edge name from.now to.now (as_span over)) ≡ None) }
         ensures broken { IfErr result (λ rule. (name : List ℕ)
             → place_broken self.now (Edge name from.now to.now (as_span over)) ≡ Some rule) }
@@ -270,7 +275,8 @@ impl<'a> Reader<'a> {
         }
     }
 
-    /// The vertex that owns a property, or the least of the rules 8 and 10 that the property breaks.
+    /// The vertex that owns a property, or the least of the rules on what is declared and on owners
+    /// that the property breaks.
     fn owning_vertex(&self, name: &[u8], over: Interval) -> Result<u32, u8>
         ensures number { IfOk result (λ v. vertex_number self.now.graph name.now ≡ Some v) }
         ensures among { IfOk result (λ v. v < length self.now.graph.vertices) }
@@ -288,7 +294,7 @@ impl<'a> Reader<'a> {
         Ok(v)
     }
 
-    /// Adds a property of a vertex, unless it breaks one of the rules 11 and 13.
+    /// Adds a property of a vertex, unless it overlaps an earlier one or is one too many.
     fn add_vertex_property(
         &mut self,
         v: u32,
@@ -332,7 +338,8 @@ impl<'a> Reader<'a> {
         }
     }
 
-    /// The edge that owns a property, or the least of the rules 8 and 10 that the property breaks.
+    /// The edge that owns a property, or the least of the rules on what is declared and on owners
+    /// that the property breaks.
     fn owning_edge(&self, name: &[u8], over: Interval) -> Result<u32, u8>
         ensures number { IfOk result (λ e. edge_number self.now.graph name.now ≡ Some e) }
         ensures among { IfOk result (λ e. e < length self.now.graph.edges) }
@@ -350,7 +357,8 @@ impl<'a> Reader<'a> {
         Ok(e)
     }
 
-    /// Adds a property of an edge, unless it breaks one of the rules 11 to 13.
+    /// Adds a property of an edge, unless it overlaps an earlier one, is a travel time of 0, or is one
+    /// too many.
     fn add_edge_property(
         &mut self,
         e: u32,
@@ -374,7 +382,7 @@ impl<'a> Reader<'a> {
         Ok(())
     }
 
-    /// The least of the rules 12 and 13 that a property of an edge breaks.
+    /// The least of the rules on travel times and on limits that a property of an edge breaks.
     fn late_rule(&self, key: &[u8], value: u32) -> Option<u8>
         ensures { result ≡ late_broken self.now key.now value }
     {
@@ -387,6 +395,6 @@ impl<'a> Reader<'a> {
     fn is_full(&self) -> bool
         ensures { result ≡ is_full self.now }
     {
-        self.graph.properties() >= PROPERTY_LIMIT
+        self.graph.properties() >= PROPERTY_LIMIT as usize
     }
 }

@@ -1,16 +1,15 @@
+//! The reading of a whole text.
 ghost use Rattle.std.specs.Prelude.{◌≡◌, ◌≤◌, ℕ, List, [], length, Err, IfOk, IfErr};
 ghost use Rattle.graphite_text.specs.Lines.{TextLine, lines_of};
 ghost use Rattle.graphite_text.specs.Reading.{Accepted, Refused, nothing_known, reading_from, reading_of, text_limit};
 
-use crate::fault::{Fault, LENGTH_RULE, MISSING_END_RULE};
+use crate::fault::Fault;
 use crate::graph::Graph;
 use crate::reader::Reader;
 use crate::store::Store;
-use graphite_text::Lines;
+use graphite_base::TEXT_LIMIT;
+use graphite_text::{LENGTH_RULE, Lines, MISSING_END_RULE};
 use std::alloc::Global;
-
-/// The most bytes that a text may have.
-pub(crate) const TEXT_LIMIT: usize = 268_435_456;
 
 /// Why a text is not loaded.
 #[derive(Clone, Copy, Debug, PartialEq, Eq)]

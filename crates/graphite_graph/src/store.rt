@@ -1,8 +1,10 @@
-ghost use Rattle.std.specs.Prelude.{◌≡◌, ◌<◌, ◌≤◌, [], Some, ◌&&◌, ◌||◌, true, false, length, map, is_none, Err, if◌then◌else◌, IfSome, IfNone, IfOk, OnOk, OnErr};
+//! What is kept of a graph while its text is read and after.
+ghost use Rattle.std.specs.Prelude.{◌≡◌, ◌<◌, ◌≤◌, ℕ, [], Some, ◌&&◌, ◌||◌, true, false, length, map, is_none, Err, if◌then◌else◌, IfSome, IfNone, IfOk, OnOk, OnErr};
 ghost use Rattle.graphite_time.specs.declared.TheConstants.{LAST};
 ghost use Rattle.graphite_time.specs.Interval.{end_of};
 ghost use Rattle.graphite_time.specs.Life.{IsLife};
-ghost use Rattle.graphite_text.specs.Graph.{is_alive, vertex_life, edge_life, vertex_number, edge_number};
+ghost use Rattle.graphite_text.specs.declared.limits.TheConstants.{VERTEX_LIMIT, EDGE_LIMIT, PROPERTY_LIMIT};
+ghost use Rattle.graphite_text.specs.Graph.{is_alive, vertex_life, edge_life, vertex_number, edge_number, vertex_is_alive};
 ghost use Rattle.graphite_text.specs.Reading.{throughout, is_apart, property_count};
 ghost use Rattle.graphite_text.specs.Spans.{as_span};
 ghost use Rattle.graphite_props.specs.declared.fault.AddFault.TheVariants.{Overlap};
@@ -17,15 +19,6 @@ use graphite_props::{AddFault, PropRow, Timelines};
 use graphite_time::{Interval, Life, NoMemory};
 use std::alloc::Global;
 use std::marker::Model;
-
-/// The most vertices that a graph may have.
-pub const VERTEX_LIMIT: u32 = 1_048_576;
-
-/// The most edges that a graph may have.
-pub const EDGE_LIMIT: u32 = 2_097_152;
-
-/// The most properties that a graph may have, of vertices and edges together.
-pub const PROPERTY_LIMIT: usize = 4_194_304;
 
 /// A graph over the instants below its horizon. Vertices and edges are numbered from 0, in the
 /// order of their lines. The names stay in the text that the graph was read from.
@@ -116,7 +109,7 @@ impl<'a> Store<'a> {
         name: &'a [u8],
         over: Interval,
     ) -> Result<bool, NoMemory>
-        requires room { length self.old.vertices < 1048576 }
+        requires room { length self.old.vertices < VERTEX_LIMIT }
         requires in_range { end_of over ≤ self.old.horizon }
         ensures added { IfOk result (λ added. added ≡ is_none (vertex_number self.old name.now)) }
         ensures graph { IfOk result (λ added. self.new
@@ -141,7 +134,7 @@ impl<'a> Store<'a> {
         ends: Ends,
         over: Interval,
     ) -> Result<bool, NoMemory>
-        requires room { length self.old.edges < 2097152 }
+        requires room { length self.old.edges < EDGE_LIMIT }
         requires among { AreAmong (length self.old.vertices) ends }
         requires in_range { end_of over ≤ self.old.horizon }
         ensures added { IfOk result (λ added. added ≡ is_none (edge_number self.old name.now)) }
@@ -169,7 +162,7 @@ impl<'a> Store<'a> {
         over: Interval,
         value: u32,
     ) -> Result<(), AddFault>
-        requires room { length self.old.vertex_properties < 4194304 }
+        requires room { length self.old.vertex_properties < PROPERTY_LIMIT }
         requires among { v < length self.old.vertices }
         ensures overlap { result ≡ Err Overlap → is_apart self.old.vertex_properties v key.now (as_span over) ≡ false }
         ensures apart { OnOk result (is_apart self.old.vertex_properties v key.now (as_span over) ≡ true) }
@@ -188,7 +181,7 @@ impl<'a> Store<'a> {
         over: Interval,
         value: u32,
     ) -> Result<(), AddFault>
-        requires room { length self.old.edge_properties < 4194304 }
+        requires room { length self.old.edge_properties < PROPERTY_LIMIT }
         requires among { e < length self.old.edges }
         ensures overlap { result ≡ Err Overlap → is_apart self.old.edge_properties e key.now (as_span over) ≡ false }
         ensures apart { OnOk result (is_apart self.old.edge_properties e key.now (as_span over) ≡ true) }
@@ -247,31 +240,33 @@ impl<'a> Store<'a> {
     pub(crate) fn horizon(&self) -> u64
         ensures horizon { result ≡ self.now.horizon }
         ensures in_range { result ≤ LAST }
+        ensures ended { (v t : ℕ) → v < length self.now.vertices → self.now.horizon ≤ t
+            → vertex_is_alive self.now v t ≡ false }
     {
         self.horizon
     }
 
-    /// How many vertices there are, at most 1,048,576.
+    /// How many vertices there are, at most [`graphite_text::VERTEX_LIMIT`].
     pub(crate) fn vertices(&self) -> u32
         ensures count { result ≡ length self.now.vertices }
-        ensures in_range { result ≤ 1048576 }
+        ensures in_range { result ≤ VERTEX_LIMIT }
     {
         self.vertex_names.len()
     }
 
-    /// How many edges there are, at most 2,097,152. Together they have no more lifespans.
+    /// How many edges there are, at most [`graphite_text::EDGE_LIMIT`]. Together they have no more lifespans.
     pub(crate) fn edges(&self) -> u32
         ensures count { result ≡ length self.now.edges }
-        ensures in_range { result ≤ 2097152 }
-        ensures lifespans { edge_lifespan_count self.now ≤ 2097152 }
+        ensures in_range { result ≤ EDGE_LIMIT }
+        ensures lifespans { edge_lifespan_count self.now ≤ EDGE_LIMIT }
     {
         self.edge_names.len()
     }
 
-    /// How many lifespans the vertices have together, at most 1,048,576.
+    /// How many lifespans the vertices have together, at most [`graphite_text::VERTEX_LIMIT`].
     pub(crate) fn lifespans(&self) -> u32
         ensures count { result ≡ lifespan_count self.now }
-        ensures in_range { result ≤ 1048576 }
+        ensures in_range { result ≤ VERTEX_LIMIT }
     {
         // each vertex has one
         self.vertex_names.len()

@@ -1,3 +1,4 @@
+//! Tests on texts that are read and graphs that are shown.
 use super::*;
 use graphite_part::Partition;
 use graphite_time::{Life, NoMemory};

@@ -1,4 +1,4 @@
--- The hash of an owner and the number of a key.
+-- For private functions alone: the hash of an owner and the number of a key.
 use Rattle.std.specs.Prelude.{ℕ, ◌+◌, ◌*◌, ◌/◌, ◌%◌}
 
 -- the last eight bytes, the first of them lowest, after one more

@@ -1,5 +1,6 @@
--- How what is kept belongs together.
+-- For proofs alone: how what is kept of properties belongs together.
 use Rattle.std.specs.Prelude.{◌≡◌, ◌<◌, ◌≤◌, ℕ, List, length, map, All}
+use Rattle.graphite_text.specs.declared.limits.TheConstants.{PROPERTY_LIMIT}
 use Rattle.graphite_props.specs.declared.row.PropRow.{PropRow}
 use Rattle.graphite_props.specs.declared.places.Places.{Places}
 use Rattle.graphite_props.specs.declared.places.Places.TheVariants.{InTurn, Hashed}
@@ -19,7 +20,7 @@ AreTimelinesOf rows (Hashed timelines) = Unit {0}
 
 -- what is kept belongs together
 pub record AreKept (keys : List (List ℕ)) (rows : List PropRow) (places : Places) : Type 0 where
-  pub in_limit : length rows ≤ 4194304
+  pub in_limit : length rows ≤ PROPERTY_LIMIT
   pub fewer_keys : length keys ≤ length rows
   pub keys_in_range : All (λ row. row.key < length keys) rows
   pub stand : AreTimelinesOf rows places

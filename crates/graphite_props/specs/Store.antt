@@ -1,4 +1,4 @@
--- Timelines by the places of their owners and keys.
+-- For private functions and proofs alone: timelines by the places of their owners and keys.
 use Rattle.std.specs.Prelude.{◌≡◌, ◌≤◌, ℕ, Bool, true, false, ◌&&◌, nat_eq, List, length, position, Option, Some, None, is_some}
 use Rattle.std.specs.Str.{bytes_eq}
 use Rattle.std.specs.Option.{option_and_then}

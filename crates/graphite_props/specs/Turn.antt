@@ -1,4 +1,4 @@
--- Rows that come in the order of their places: owner by owner, and those of an owner key by key, one for each.
+-- For private functions and proofs alone: rows that come in the order of their places: owner by owner, and those of an owner key by key, one for each.
 use Rattle.std.specs.Prelude.{◌≡◌, ℕ, ◌<◌, Bool, true, ◌&&◌, ◌||◌, nat_eq, nat_lt, List, [], ◌∷◌, length, slice_index_or, option_map}
 use Rattle.std.specs.List.{find}
 use Rattle.graphite_part.specs.declared.piece.Piece.{Piece}

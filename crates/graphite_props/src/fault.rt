@@ -1,3 +1,4 @@
+//! Why a property is not added.
 ghost use Rattle.std.specs.Prelude.{◌≡◌};
 ghost use Rattle.graphite_props.specs.declared.fault.AddFault.TheVariants.{NoMemory as no_memory};
 
@@ -8,7 +9,7 @@ use graphite_time::NoMemory;
 pub enum AddFault {
     /// A property of this owner and key holds at an instant of the new one.
     Overlap,
-    /// Memory could not be had.
+    /// Out of memory.
     NoMemory,
 }
 

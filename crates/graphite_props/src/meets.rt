@@ -1,3 +1,4 @@
+//! Whether an interval meets the pieces of a timeline.
 ghost use Rattle.std.specs.Prelude.{◌≡◌, not, is_none};
 ghost use Rattle.graphite_part.specs.Pieces.{value_at, IsChain, last_end};
 ghost use Rattle.graphite_text.specs.Reading.{throughout};

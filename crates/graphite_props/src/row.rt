@@ -1,3 +1,4 @@
+//! One property, with its owner and key by number.
 use graphite_time::Interval;
 
 /// A value that an owner has under a key over an interval.

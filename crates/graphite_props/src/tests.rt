@@ -1,3 +1,4 @@
+//! Tests on properties that touch, overlap and come in any order.
 use super::*;
 use graphite_time::Interval;
 use std::test::Fail;

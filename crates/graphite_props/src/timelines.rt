@@ -1,7 +1,9 @@
+//! Properties with their values by instant.
 ghost use Rattle.std.specs.Prelude.{◌≡◌, ◌<◌, ◌≤◌, ◌↔◌, ◌++◌, ℕ, List, [], ◌∷◌, not, true, false, length, map, slice_get, is_some, Err, Some, All, IfSome, OnOk, OnErr};
 ghost use Rattle.std.specs.List.{position_or_len};
 ghost use Rattle.std.specs.Str.{bytes_eq};
 ghost use Rattle.graphite_part.specs.Pieces.{value_at};
+ghost use Rattle.graphite_text.specs.declared.limits.TheConstants.{PROPERTY_LIMIT};
 ghost use Rattle.graphite_text.specs.Graph.{property_at};
 ghost use Rattle.graphite_text.specs.Reading.{is_apart};
 ghost use Rattle.graphite_text.specs.Spans.{as_span};
@@ -63,7 +65,7 @@ impl<'a> Timelines<'a> {
         over: Interval,
         value: u32,
     ) -> Result<(), AddFault>
-        requires { length self.old < 4194304 }
+        requires { length self.old < PROPERTY_LIMIT }
         ensures overlap { result ≡ Err Overlap ↔ is_apart self.old owner key.now (as_span over) ≡ false }
         ensures apart { OnOk result (is_apart self.old owner key.now (as_span over) ≡ true) }
         ensures ok { OnOk result (self.new ≡ self.old ++ property owner key.now over value ∷ []) }
@@ -90,7 +92,7 @@ impl<'a> Timelines<'a> {
     pub fn rows(&self) -> &[PropRow]
         ensures rows { properties_of (keys_of self.now) result.now ≡ self.now }
         ensures count { length result.now ≡ length self.now }
-        ensures in_limit { length self.now ≤ 4194304 }
+        ensures in_limit { length self.now ≤ PROPERTY_LIMIT }
         ensures keys { All (λ row. row.key < length (keys_of self.now)) result.now }
     {
         &self.rows
@@ -148,7 +150,7 @@ impl<'a> Timelines<'a> {
         over: Interval,
         value: u32,
     ) -> Result<(), NoMemory>
-        requires room { length self.old < 4194304 }
+        requires room { length self.old < PROPERTY_LIMIT }
         requires number { number ≡ position_or_len (bytes_eq key.now) (keys_of self.old) }
         requires apart { is_apart self.old owner key.now (as_span over) ≡ true }
         ensures ok { OnOk result (self.new ≡ self.old ++ property owner key.now over value ∷ []) }
