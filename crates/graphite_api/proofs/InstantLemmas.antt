@@ -15,12 +15,13 @@ use Rattle.graphite_api.specs.declared.next.Next.{Next}
 use Rattle.graphite_api.specs.Plan.{Plan}
 use Rattle.graphite_api.specs.Table.{IsArcOn}
 use Rattle.graphite_api.specs.Snapshot.{Snapshot, arcs_at}
-use Rattle.graphite_api.specs.Supersteps.{after, superstep, state_after, group_of, input_of, input_in, sends, sends_in}
+use Rattle.graphite_api.specs.Rules.{point_rules, outcome_at, state_of, input_of}
+use Rattle.graphite_api.specs.Supersteps.{after, superstep, state_after, group_of, input_in, sends, sends_in}
 use Rattle.graphite_api.specs.Calls.{is_quiet, supersteps_made, same_input, calls_in, calls_made}
-use Rattle.graphite_api.specs.Left.{entry_of, state_of, IsTaken}
-use Rattle.graphite_api.proofs.LeftLemmas.{sum_by-range_more, count_by-range-le}
+use Rattle.graphite_api.specs.Outcomes.{entry_of, IsTaken}
+use Rattle.graphite_api.proofs.RangeLemmas.{sum_by-range_more, count_by-range-le}
 use Rattle.graphite_api.proofs.MadeLemmas.{quiet_from, quiet_at, made-always, made-quiet, made-all}
-use Rattle.graphite_api.proofs.SuperstepLemmas.{silent_for_good}
+use Rattle.graphite_api.proofs.SuperstepLemmas.{silent_for_good, group_in-next}
 
 -- the arcs of a table that hold an instant can be taken there
 pub taken_at : (lives : List (List Interval)) (arcs : List Arc) (t n : ℕ) (now : Interval) → start_of now ≡ t → end_of now ≡ t + 1 → n ≡ length lives → All (IsArcOn lives) arcs → All (IsTaken now n) (arcs_at arcs t)
@@ -34,27 +35,29 @@ taken_at lives arcs t n now start end len all = λ k d within.
       to = omega (arith, on.to, len);
     }
 
-entry_of-map : {S : Type 0} (left : List (Option (Next S))) (v : ℕ) → entry_of (map state_of left) v ≡ state_of (entry_of left v)
+entry_of-map : {S : Type 0} (outcomes : List (Option (Next S))) (v : ℕ) → entry_of (map state_of outcomes) v ≡ state_of (entry_of outcomes v)
 entry_of-map [] v = refl
-entry_of-map (own ∷ left) zero = refl
-entry_of-map (own ∷ left) (suc v) = entry_of-map left v
+entry_of-map (own ∷ outcomes) zero = refl
+entry_of-map (own ∷ outcomes) (suc v) = entry_of-map outcomes v
 
--- the states of what the vertices are left with
-pub states_of : {S : Type 0} (left : List (Option (Next S))) (states : List (Option S)) (v : ℕ) (o : Option (Next S)) → states ≡ map state_of left → entry_of left v ≡ o → entry_of states v ≡ option_map (λ own. own.state) o
-states_of left states v o is own = ap (λ xs. entry_of xs v) is ∙ entry_of-map left v ∙ ap state_of own
+-- the states of the outcomes
+pub states_of : {S : Type 0} (outcomes : List (Option (Next S))) (states : List (Option S)) (v : ℕ) (o : Option (Next S)) → states ≡ map state_of outcomes → entry_of outcomes v ≡ o → entry_of states v ≡ option_map (λ own. own.state) o
+states_of outcomes states v o is own = ap (λ xs. entry_of xs v) is ∙ entry_of-map outcomes v ∙ ap state_of own
 
 module _ {S M : Type 0} (order : S → S → Ordering) (plan : Plan S M) (snapshot : Snapshot S) (n : ℕ) where
   -- one superstep more
-  pub after-next : (k : ℕ) (left : ℕ → Option (Next S)) → ((v : ℕ) → left v ≡ after plan snapshot k v) → (v : ℕ) → superstep plan snapshot.links (k + 1) left v ≡ after plan snapshot (k + 1) v
-  after-next k left is v =
-      ap (λ (l : ℕ → Option (Next S)). superstep plan snapshot.links (k + 1) l v) (fun_ext is)
-      ∙ ap (λ m. superstep plan snapshot.links m (after plan snapshot k) v) (add-one k)
+  pub after-next : (k : ℕ) (outcomes : ℕ → Option (Next S)) → ((v : ℕ) → outcomes v ≡ after plan snapshot k v) → (v : ℕ) → superstep plan (k + 1) outcomes (group_of plan snapshot.links outcomes) v ≡ after plan snapshot (k + 1) v
+  after-next k outcomes is v =
+      ap (λ (all : ℕ → Option (Next S)). superstep plan (k + 1) all (group_of plan snapshot.links all) v) (fun_ext is)
+      ∙ ap (λ m. superstep plan m (after plan snapshot k) (group_of plan snapshot.links (after plan snapshot k)) v) (add-one k)
+      ∙ ap (outcome_at (point_rules plan) (suc k) (state_after plan snapshot k v)) (group_in-next plan snapshot k v)
       ∙ ap (λ m. after plan snapshot m v) (sym (add-one k))
 
-  input_in-next : (k : ℕ) (left : ℕ → Option (Next S)) → ((v : ℕ) → left v ≡ after plan snapshot k v) → (v : ℕ) → input_of plan (k + 1) (state_of (left v)) (group_of plan snapshot.links left v) ≡ input_in plan snapshot (k + 1) v
-  input_in-next k left is v =
-      ap (λ (l : ℕ → Option (Next S)). input_of plan (k + 1) (state_of (l v)) (group_of plan snapshot.links l v)) (fun_ext is)
-      ∙ ap (λ m. input_of plan m (state_after plan snapshot k v) (group_of plan snapshot.links (after plan snapshot k) v)) (add-one k)
+  input_in-next : (k : ℕ) (outcomes : ℕ → Option (Next S)) → ((v : ℕ) → outcomes v ≡ after plan snapshot k v) → (v : ℕ) → input_of (point_rules plan) (k + 1) (state_of (outcomes v)) (group_of plan snapshot.links outcomes v) ≡ input_in plan snapshot (k + 1) v
+  input_in-next k outcomes is v =
+      ap (λ (all : ℕ → Option (Next S)). input_of (point_rules plan) (k + 1) (state_of (all v)) (group_of plan snapshot.links all v)) (fun_ext is)
+      ∙ ap (λ m. input_of (point_rules plan) m (state_after plan snapshot k v) (group_of plan snapshot.links (after plan snapshot k) v)) (add-one k)
+      ∙ ap (input_of (point_rules plan) (suc k) (state_after plan snapshot k v)) (group_in-next plan snapshot k v)
       ∙ ap (λ m. input_in plan snapshot m v) (sym (add-one k))
 
   -- at one instant the calls are those of the vertices that compute
@@ -66,9 +69,9 @@ module _ {S M : Type 0} (order : S → S → Ordering) (plan : Plan S M) (snapsh
       one None = refl
       one (Some input) = refl
 
-  pub called : (k : ℕ) (left : ℕ → Option (Next S)) → ((v : ℕ) → left v ≡ after plan snapshot k v) → count_by (λ v. is_some (input_of plan (k + 1) (state_of (left v)) (group_of plan snapshot.links left v))) (range_with_len 0 n) ≡ calls_in order plan (λ _. snapshot) n 1 (k + 1)
-  called k left is =
-      ap (λ (p : ℕ → Bool). count_by p (range_with_len 0 n)) (fun_ext (λ v. ap is_some (input_in-next k left is v))) ∙ sym (calls_in-one (k + 1))
+  pub called : (k : ℕ) (outcomes : ℕ → Option (Next S)) → ((v : ℕ) → outcomes v ≡ after plan snapshot k v) → count_by (λ v. is_some (input_of (point_rules plan) (k + 1) (state_of (outcomes v)) (group_of plan snapshot.links outcomes v))) (range_with_len 0 n) ≡ calls_in order plan (λ _. snapshot) n 1 (k + 1)
+  called k outcomes is =
+      ap (λ (p : ℕ → Bool). count_by p (range_with_len 0 n)) (fun_ext (λ v. ap is_some (input_in-next k outcomes is v))) ∙ sym (calls_in-one (k + 1))
 
   -- the calls in the first k supersteps
   abbrev pub calls_to : ℕ → ℕ
@@ -83,7 +86,7 @@ module _ {S M : Type 0} (order : S → S → Ordering) (plan : Plan S M) (snapsh
       omega (arith, is, next, same, all)
 
   -- they are few
-  calls_to-le : (k : ℕ) → calls_to k ≤ k * n
+  pub calls_to-le : (k : ℕ) → calls_to k ≤ k * n
   calls_to-le zero = omega arith
   calls_to-le (suc k) =
       let next = calls_to-more k in
@@ -99,12 +102,26 @@ module _ {S M : Type 0} (order : S → S → Ordering) (plan : Plan S M) (snapsh
       let product : k * n ≤ 2 ^ 32 * 2 ^ 32 = mul-le-mul {n₁ = k} {m₁ = n} {n₂ = 2 ^ 32} {m₂ = 2 ^ 32} (omega (arith, few)) (omega (arith, some)) in
       omega (arith, room, is, few, some, all, product)
 
+  -- they are at most one for each vertex and superstep, also where the last superstep was not finished
+  pub calls_to-most : (k steps first count : ℕ) → k ≤ steps → count ≡ first + calls_to k → count ≤ first + steps * n
+  calls_to-most k steps first count few is =
+      let all = calls_to-le k in
+      let product : k * n ≤ steps * n = mul-le-mul {n₁ = k} {m₁ = n} {n₂ = steps} {m₂ = n} few (omega arith) in
+      omega (arith, is, all, product)
+
+  pub calls_to-most_more : (k steps first count now more : ℕ) → k < steps → count ≡ first + calls_to k → now ≤ count + more → more ≡ n → now ≤ first + steps * n
+  calls_to-most_more k steps first count now more few is next same =
+      let all = calls_to-le k in
+      let one = suc-mul k n in
+      let product : suc k * n ≤ steps * n = mul-le-mul {n₁ = suc k} {m₁ = n} {n₂ = steps} {m₂ = n} (omega (arith, few)) (omega arith) in
+      omega (arith, is, next, all, one, product, same)
+
   -- supersteps that were made and were not the last
   abbrev pub GoesOn : ℕ → Type 0
   GoesOn k = (j : ℕ) → 1 ≤ j → j ≤ k → plan.always ≡ false → is_quiet plan (λ _. snapshot) n 1 j ≡ false
 
-  pub goes_on-more : (k : ℕ) (left : ℕ → Option (Next S)) → GoesOn k → ((v : ℕ) → left v ≡ after plan snapshot (k + 1) v) → (plan.always ≡ false → (v : ℕ) × ((v < n) × (sends (left v) ≡ true))) → GoesOn (k + 1)
-  goes_on-more k left before is sending j low high always =
+  pub goes_on-more : (k : ℕ) (outcomes : ℕ → Option (Next S)) → GoesOn k → ((v : ℕ) → outcomes v ≡ after plan snapshot (k + 1) v) → (plan.always ≡ false → (v : ℕ) × ((v < n) × (sends (outcomes v) ≡ true))) → GoesOn (k + 1)
+  goes_on-more k outcomes before is sending j low high always =
       ⊎_elim (λ (less : j < k + 1). before j low (omega (arith, less)) always)
       (λ (ge : k + 1 ≤ j).
       let same : j ≡ k + 1 = omega (arith, high, ge) in
@@ -120,7 +137,7 @@ module _ {S M : Type 0} (order : S → S → Ordering) (plan : Plan S M) (snapsh
       by j v among sent false quiet = refl
 
   -- where they stop
-  module _ (steps k : ℕ) (within : k + 1 ≤ steps) (before : GoesOn k) (always : plan.always ≡ false) (left : ℕ → Option (Next S)) (is : (v : ℕ) → left v ≡ after plan snapshot (k + 1) v) (silent : (v : ℕ) → sends (left v) ≡ false) where
+  module _ (steps k : ℕ) (within : k + 1 ≤ steps) (before : GoesOn k) (always : plan.always ≡ false) (outcomes : ℕ → Option (Next S)) (is : (v : ℕ) → outcomes v ≡ after plan snapshot (k + 1) v) (silent : (v : ℕ) → sends (outcomes v) ≡ false) where
     none_sends : (v : ℕ) → sends_in plan snapshot (k + 1) v ≡ false
     none_sends v = ap sends (sym (is v)) ∙ silent v
 
@@ -129,8 +146,8 @@ module _ {S M : Type 0} (order : S → S → Ordering) (plan : Plan S M) (snapsh
         made-quiet plan (λ _. snapshot) n 1 steps (k + 1) always (omega arith) within (λ j low high. before j low (omega (arith, high)) always)
         (quiet_from plan (λ _. snapshot) n 1 (k + 1) (λ t v early among. none_sends v))
 
-    pub stopped-left : (v : ℕ) → left v ≡ after plan snapshot steps v
-    stopped-left v = is v ∙ sym (silent_for_good plan snapshot (k + 1) steps always (omega arith) none_sends within v)
+    pub stopped-outcomes : (v : ℕ) → outcomes v ≡ after plan snapshot steps v
+    stopped-outcomes v = is v ∙ sym (silent_for_good plan snapshot (k + 1) steps always (omega arith) none_sends within v)
 
   -- where they do not
   pub all-made : (steps : ℕ) → GoesOn steps → supersteps_made plan (λ _. snapshot) n 1 steps ≡ steps
@@ -146,8 +163,8 @@ module _ {S M : Type 0} (order : S → S → Ordering) (plan : Plan S M) (snapsh
   calls_made-is steps made is = ap calls_to is
 
 -- as many states as vertices
-pub length-states : {S : Type 0} (left : List (Option (Next S))) (states : List (Option S)) (n : ℕ) → states ≡ map state_of left → length left ≡ n → length states ≡ n
-length-states {S} left states n is len = ap length is ∙ length-map_state left ∙ len
+pub length-states : {S : Type 0} (outcomes : List (Option (Next S))) (states : List (Option S)) (n : ℕ) → states ≡ map state_of outcomes → length outcomes ≡ n → length states ≡ n
+length-states {S} outcomes states n is len = ap length is ∙ length-map_state outcomes ∙ len
   where
     length-map_state : (xs : List (Option (Next S))) → length (map state_of xs) ≡ length xs
     length-map_state [] = refl

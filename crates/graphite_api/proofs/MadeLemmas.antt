@@ -42,7 +42,7 @@ module _ {S M : Type 0} (plan : Plan S M) (snapshots : ℕ → Snapshot S) (vert
   made-all steps always others =
       cond-false _ _ _ always ∙ ap (λ o. unwrap_or o steps) (find-range_none (λ j. is_quiet plan snapshots vertices horizon j) 1 steps (λ j low high. others j low (omega (arith, high))))
 
-  -- what the vertices are left with after the supersteps made is what all supersteps would leave
+  -- the outcomes of the supersteps made are those of all supersteps
   pub stop_changes_nothing : (steps t v : ℕ) → t < horizon → ((w : ℕ) → vertices ≤ w → (snapshots t).start w ≡ None) → after plan (snapshots t) (supersteps_made plan snapshots vertices horizon steps) v ≡ after plan (snapshots t) steps v
   unfolding supersteps_made
   stop_changes_nothing steps t v within others = by plan.always refl

@@ -1,7 +1,9 @@
--- Tests of the numbers of a range.
-use Rattle.std.proofs.Common.{◌≡◌, ◌∙◌, sym, ap, refl, ℕ, zero, suc, ◌+◌, ◌<◌, ◌≤◌, ◌||◌, Bool, true, false, find, Some, None, arith, subst, ⊎_elim}
+-- Tests of the numbers of a range, and sums over them.
+use Rattle.std.proofs.Common.{◌≡◌, ◌∙◌, sym, ap, refl, ℕ, zero, suc, ◌+◌, ◌<◌, ◌≤◌, ◌||◌, Bool, true, false, find, Some, None, arith, subst, ⊎_elim, List, [], ◌∷◌, ◌++◌, cond, sum_by, count_by}
 use Rattle.std.specs.List.{list_any, list_all, range_with_len}
 use Rattle.std.proofs.lemmas.Bool.{cond-true, cond-false, cases_lt, and_parts, and_from}
+use Rattle.std.proofs.lemmas.List.Sums.{sum_by-append, count_by-le-length}
+use Rattle.std.proofs.lemmas.List.FromFn.{length-range_with_len}
 use Rattle.std.proofs.lemmas.Option.{none-some, same_Some}
 
 or_parts : (a b : Bool) → (a || b) ≡ false → (a ≡ false) × (b ≡ false)
@@ -69,3 +71,22 @@ found_in_range p a (suc n) k e = by (found_in_range p (a + 1) n k) (p a) refl
     by later false here =
         let rest = later (sym (cond-false _ _ _ here) ∙ e) in
         record { low = omega (arith, rest.low); high = omega (arith, rest.high); passes = rest.passes }
+
+-- one number more
+pub range_more : (a n : ℕ) → range_with_len a (n + 1) ≡ range_with_len a n ++ (a + n) ∷ []
+range_more a zero = let start : a ≡ a + 0 = omega arith in ap (λ m. m ∷ []) start
+range_more a (suc n) =
+    let here : suc n + 1 ≡ suc (n + 1) = omega arith in
+    let last : (a + 1) + n ≡ a + suc n = omega arith in
+    ap (range_with_len a) here ∙ ap (λ xs. a ∷ xs) (range_more (a + 1) n ∙ ap (λ m. range_with_len (a + 1) n ++ m ∷ []) last)
+
+pub sum_by-range_more : (f : ℕ → ℕ) (a n k : ℕ) → a + n ≡ k → sum_by f (range_with_len a (n + 1)) ≡ sum_by f (range_with_len a n) + f k
+sum_by-range_more f a n k is =
+    let last : 0 + f k ≡ f k = omega arith in
+    ap (sum_by f) (range_more a n ∙ ap (λ m. range_with_len a n ++ m ∷ []) is) ∙ sum_by-append f (range_with_len a n) (k ∷ []) ∙ ap (λ m. sum_by f (range_with_len a n) + m) last
+
+pub count_by-range_more : (p : ℕ → Bool) (n : ℕ) → count_by p (range_with_len 0 (n + 1)) ≡ count_by p (range_with_len 0 n) + cond (p n) 1 0
+count_by-range_more p n = sum_by-range_more (λ k. cond (p k) 1 0) 0 n n (omega arith)
+
+pub count_by-range-le : (p : ℕ → Bool) (n : ℕ) → count_by p (range_with_len 0 n) ≤ n
+count_by-range-le p n = omega (arith, count_by-le-length p (range_with_len 0 n), length-range_with_len 0 n)

@@ -1,8 +1,9 @@
 pub mod ArcOrder
 pub mod BreadthFirst
 pub mod Calls
-pub mod Left
+pub mod Outcomes
 pub mod Plan
+pub mod Rules
 pub mod Snapshot
 pub mod Supersteps
 pub mod Table

@@ -5,7 +5,7 @@ use Rattle.graphite_time.specs.declared.interval.Interval.{Interval}
 use Rattle.graphite_warp.specs.declared.message.Message.{Message}
 use Rattle.graphite_api.specs.declared.next.Next.{Next}
 
--- what a vertex is left with after a superstep, given its state and its group; what it tells along an
+-- the outcome of a superstep for a vertex, given its state and its group; what it tells along an
 -- arc of this time and cost; the order of notes; and whether every vertex computes in every superstep
 pub record Plan (S M : Type 0) : Type 0 where
   pub next : ℕ → S → List M → Next S

@@ -3,7 +3,7 @@ use Rattle.std.specs.Prelude.{◌≡◌, ℕ, Bool, ◌==◌, ◌+◌, ◌^◌, 
 use Rattle.std.specs.List.{AllWithin}
 use Rattle.graphite_time.specs.declared.interval.Interval.{Interval}
 use Rattle.graphite_time.specs.Interval.{holds}
-use Rattle.graphite_time.specs.Life.{is_held}
+use Rattle.graphite_time.specs.Life.{is_held, IsLife}
 use Rattle.graphite_warp.specs.Sorted.{sorted}
 use Rattle.graphite_api.specs.declared.arc.Arc.{Arc}
 use Rattle.graphite_api.specs.ArcOrder.{arc_order}
@@ -28,10 +28,12 @@ pub record IsArcOn (lives : List (List Interval)) (arc : Arc) : Type 0 where
   pub time : 1 ≤ arc.time
   pub alive : (t : ℕ) → IsTrue (holds arc.over t) → IsTrue (vertex_is_alive lives arc.from t)
 
--- what a table keeps: the arcs are between its vertices, and in order
+-- what a table keeps: the lives are lives, and the arcs are between its vertices, have costs of 32 bits, and are in order
 pub record IsTable (lives : List (List Interval)) (arcs : List Arc) : Type 0 where
   pub few : length lives < 2 ^ 32
+  pub lives_are : All IsLife lives
   pub arcs_on : All (IsArcOn lives) arcs
+  pub costs : All (λ arc. arc.cost < 2 ^ 32) arcs
   pub in_order : sorted arc_order arcs ≡ arcs
 
 -- the arcs that lead out of a vertex

@@ -1,3 +1,4 @@
+//! The arcs along which vertices send.
 ghost use Rattle.std.proofs.Common.{true, lit<};
 ghost use Rattle.graphite_api.specs.ArcOrder.{arc_exact};
 

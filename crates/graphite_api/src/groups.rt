@@ -2,7 +2,7 @@
 ghost use Rattle.std.specs.Prelude.{◌≡◌, ◌≢◌, ◌<◌, ◌++◌, ◌∷◌, [], ℕ, map, length, IfOk, OnOk};
 ghost use Rattle.std.specs.List.{range_with_len};
 ghost use Rattle.graphite_warp.specs.Sorted.{sorted};
-ghost use Rattle.graphite_api.specs.Left.{list_of};
+ghost use Rattle.graphite_api.specs.Outcomes.{list_of};
 
 use graphite_part::Plain;
 use graphite_time::NoMemory;

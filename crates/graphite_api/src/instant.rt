@@ -8,10 +8,10 @@ ghost use Rattle.graphite_time.specs.Interval.{start_of, end_of, holds};
 ghost use Rattle.graphite_time.specs.Life.{is_held};
 ghost use Rattle.graphite_warp.specs.Sorted.{sorted};
 ghost use Rattle.graphite_api.specs.Table.{vertex_is_alive};
-ghost use Rattle.graphite_api.specs.Snapshot.{link_of, arcs_at, start_at, snapshot_at};
-ghost use Rattle.graphite_api.specs.Supersteps.{note_along, notes_to, group_of, computes, idle, left_with, superstep, input_of, sends, after, state_after};
-ghost use Rattle.graphite_api.specs.Calls.{supersteps_made, calls_made};
-ghost use Rattle.graphite_api.specs.Left.{entry_of, state_of, list_of, IsTaken};
+ghost use Rattle.graphite_api.specs.Snapshot.{link_of, arcs_at, start_at};
+ghost use Rattle.graphite_api.specs.Rules.{point_rules, computes, idle, outcome_with, outcome_at, state_of, input_of};
+ghost use Rattle.graphite_api.specs.Supersteps.{note_along, notes_to, group_of, superstep, sends};
+ghost use Rattle.graphite_api.specs.Outcomes.{entry_of, list_of, IsTaken};
 
 use crate::groups::Groups;
 use crate::{Arc, ArcTable, Next, PointProgram, RanAt};
@@ -19,18 +19,18 @@ use graphite_part::Plain;
 use graphite_time::{Interval, Life, NoMemory};
 use std::alloc::Global;
 
-/// What a vertex with this state tells along an arc at the instants of an interval.
+/// What a vertex with this outcome tells along an arc at the instants of an interval.
 fn note_of<P: PointProgram>(
     program: &P,
-    left: Option<Next<P::State>>,
+    outcome: Option<Next<P::State>>,
     arc: &Arc,
     now: Interval,
 ) -> Option<P::Note>
     requires starts { start_of arc.now.over ≤ start_of now }
     requires ends { end_of now ≤ end_of arc.now.over }
-    ensures { result ≡ note_along P.plan left (link_of arc.now) }
+    ensures { result ≡ note_along P.plan outcome (link_of arc.now) }
 {
-    let sender = left?;
+    let sender = outcome?;
     if !sender.send {
         return None;
     }
@@ -40,7 +40,7 @@ fn note_of<P: PointProgram>(
 
 /// Whether a vertex with this group computes in superstep `step`.
 fn is_computing<P: PointProgram>(step: u32, group: &[P::Note]) -> bool
-    ensures { result ≡ computes P.plan step group.now }
+    ensures { result ≡ computes (point_rules P.plan) step group.now }
 {
     if step == 1 {
         return true;
@@ -51,7 +51,7 @@ fn is_computing<P: PointProgram>(step: u32, group: &[P::Note]) -> bool
     !group.is_empty()
 }
 
-/// What a vertex is left with after superstep `step`.
+/// The outcome of superstep `step` for a vertex.
 fn next_of<P: PointProgram>(
     program: &mut P,
     step: u32,
@@ -60,9 +60,9 @@ fn next_of<P: PointProgram>(
 ) -> Next<P::State>
     requires room { P.count program.old + 1 < 2 ^ 128 }
     requires step { 1 ≤ step }
-    ensures next { result ≡ left_with P.plan step state group.now }
+    ensures next { result ≡ outcome_with (point_rules P.plan) step state group.now }
     ensures calls { P.count program.new
-        ≡ P.count program.old + (if computes P.plan step group.now then 1 else 0) }
+        ≡ P.count program.old + (if computes (point_rules P.plan) step group.now then 1 else 0) }
 {
     if !is_computing::<P>(step, group) {
         return Next { state, send: false };
@@ -70,44 +70,45 @@ fn next_of<P: PointProgram>(
     program.compute(step, state, group)
 }
 
-/// What a vertex is left with after superstep `step`, from what it was left with before.
+/// The outcome of superstep `step` for a vertex, from the one before.
 fn advance_one<P: PointProgram>(
     program: &mut P,
     step: u32,
-    left: Option<Next<P::State>>,
+    outcome: Option<Next<P::State>>,
     group: &[P::Note],
 ) -> Option<Next<P::State>>
     requires room { P.count program.old + 1 < 2 ^ 128 }
     requires step { 1 ≤ step }
-    ensures next { result ≡ option_map (λ own. left_with P.plan step own.state group.now) left }
+    ensures next { result ≡ outcome_at (point_rules P.plan) step (state_of outcome) group.now }
     ensures calls { P.count program.new ≡ P.count program.old
-        + (if is_some (input_of P.plan step (state_of left) group.now) then 1 else 0) }
+        + (if is_some (input_of (point_rules P.plan) step (state_of outcome) group.now) then 1 else 0) }
 {
-    let own = left?;
+    let own = outcome?;
     Some(next_of(program, step, own.state, group))
 }
 
-/// What each vertex is left with after superstep `step`, from what they were left with before and
-/// their groups.
+/// The outcomes of superstep `step`, from those before and the groups.
 fn advance<P: PointProgram>(
     alloc: Global,
     program: &mut P,
     step: u32,
-    left: &[Option<Next<P::State>>],
+    outcomes: &[Option<Next<P::State>>],
     groups: &Groups<P::Note>,
 ) -> Result<Vec<Option<Next<P::State>>>, NoMemory>
-    requires groups { length groups.now ≡ length left.now }
-    requires room { P.count program.old + length left.now < 2 ^ 128 }
+    requires groups { length groups.now ≡ length outcomes.now }
+    requires room { P.count program.old + length outcomes.now < 2 ^ 128 }
     requires step { 1 ≤ step }
-    ensures len { IfOk result (λ new. length new.items ≡ length left.now) }
+    ensures len { IfOk result (λ new. length new.items ≡ length outcomes.now) }
     ensures next { IfOk result (λ new. (v : ℕ) → entry_of new.items v
-        ≡ option_map (λ own. left_with P.plan step own.state (list_of groups.now v)) (entry_of left.now v)) }
+        ≡ superstep P.plan step (entry_of outcomes.now) (list_of groups.now) v) }
     ensures calls { OnOk result (P.count program.new ≡ P.count program.old
-        + count_by (λ v. is_some (input_of P.plan step (state_of (entry_of left.now v)) (list_of groups.now v)))
-        (range_with_len 0 (length left.now))) }
+        + count_by (λ v. is_some (input_of (point_rules P.plan) step (state_of (entry_of outcomes.now v)) (list_of groups.now v)))
+        (range_with_len 0 (length outcomes.now))) }
+    ensures no_fewer { P.count program.old ≤ P.count program.new }
+    ensures no_more { P.count program.new ≤ P.count program.old + length outcomes.now }
 {
-    let mut new = Vec::with_capacity(alloc, left.len())?;
-    for (v, own) in left.iter().enumerate() {
+    let mut new = Vec::with_capacity(alloc, outcomes.len())?;
+    for (v, own) in outcomes.iter().enumerate() {
         let next = advance_one(program, step, *own, groups.notes(v));
         new.push(next)?;
     }
@@ -115,10 +116,10 @@ fn advance<P: PointProgram>(
 }
 
 /// The entry of a vertex.
-fn left_of<S: Plain>(left: &[Option<Next<S>>], v: u32) -> Option<Next<S>>
-    ensures { result ≡ entry_of left.now v }
+fn outcome_of<S: Plain>(outcomes: &[Option<Next<S>>], v: u32) -> Option<Next<S>>
+    ensures { result ≡ entry_of outcomes.now v }
 {
-    left.get(v as usize).copied().flatten()
+    outcomes.get(v as usize).copied().flatten()
 }
 
 /// Adds to the group of each vertex what it is told along the arcs.
@@ -126,16 +127,16 @@ fn deliver<P: PointProgram>(
     program: &P,
     arcs: &[Arc],
     now: Interval,
-    left: &[Option<Next<P::State>>],
+    outcomes: &[Option<Next<P::State>>],
     groups: &mut Groups<P::Note>,
 ) -> Result<(), NoMemory>
     requires { All (IsTaken now (length groups.old)) arcs.now }
     ensures len { length groups.new ≡ length groups.old }
     ensures told { OnOk result ((v : ℕ) → list_of groups.new v ≡ list_of groups.old v
-        ++ notes_to P.plan (map link_of arcs.now) (entry_of left.now) v) }
+        ++ notes_to P.plan (map link_of arcs.now) (entry_of outcomes.now) v) }
 {
     for arc in arcs {
-        let Some(note) = note_of(program, left_of(left, arc.from), arc, now) else {
+        let Some(note) = note_of(program, outcome_of(outcomes, arc.from), arc, now) else {
             continue;
         };
         groups.add(arc.to, note)?;
@@ -143,47 +144,50 @@ fn deliver<P: PointProgram>(
     Ok(())
 }
 
-/// The group of each vertex, from what the vertices were left with.
+/// The group of each vertex, from the outcomes.
 fn groups_at<P: PointProgram>(
     alloc: Global,
     program: &P,
     arcs: &[Arc],
     now: Interval,
-    left: &[Option<Next<P::State>>],
+    outcomes: &[Option<Next<P::State>>],
 ) -> Result<Groups<P::Note>, NoMemory>
-    requires { All (IsTaken now (length left.now)) arcs.now }
-    ensures len { IfOk result (λ groups. length groups ≡ length left.now) }
+    requires { All (IsTaken now (length outcomes.now)) arcs.now }
+    ensures len { IfOk result (λ groups. length groups ≡ length outcomes.now) }
     ensures groups { IfOk result (λ groups. (v : ℕ) → list_of groups v
-        ≡ group_of P.plan (map link_of arcs.now) (entry_of left.now) v) }
+        ≡ group_of P.plan (map link_of arcs.now) (entry_of outcomes.now) v) }
 {
-    let mut groups = Groups::empty(alloc, left.len())?;
-    deliver(program, arcs, now, left, &mut groups)?;
+    let mut groups = Groups::empty(alloc, outcomes.len())?;
+    deliver(program, arcs, now, outcomes, &mut groups)?;
     groups.sort();
     Ok(groups)
 }
 
-/// What each vertex is left with after superstep `step`, from what they were left with before.
+/// The outcomes of superstep `step`, from those before.
 pub(crate) fn superstep_at<P: PointProgram>(
     alloc: Global,
     program: &mut P,
     arcs: &[Arc],
     now: Interval,
     step: u32,
-    left: &[Option<Next<P::State>>],
+    outcomes: &[Option<Next<P::State>>],
 ) -> Result<Vec<Option<Next<P::State>>>, NoMemory>
-    requires arcs { All (IsTaken now (length left.now)) arcs.now }
-    requires room { P.count program.old + length left.now < 2 ^ 128 }
+    requires arcs { All (IsTaken now (length outcomes.now)) arcs.now }
+    requires room { P.count program.old + length outcomes.now < 2 ^ 128 }
     requires step { 1 ≤ step }
-    ensures len { IfOk result (λ new. length new.items ≡ length left.now) }
+    ensures len { IfOk result (λ new. length new.items ≡ length outcomes.now) }
     ensures next { IfOk result (λ new. (v : ℕ) → entry_of new.items v
-        ≡ superstep P.plan (map link_of arcs.now) step (entry_of left.now) v) }
+        ≡ superstep P.plan step (entry_of outcomes.now)
+        (group_of P.plan (map link_of arcs.now) (entry_of outcomes.now)) v) }
     ensures calls { OnOk result (P.count program.new ≡ P.count program.old
-        + count_by (λ v. is_some (input_of P.plan step (state_of (entry_of left.now v))
-        (group_of P.plan (map link_of arcs.now) (entry_of left.now) v)))
-        (range_with_len 0 (length left.now))) }
+        + count_by (λ v. is_some (input_of (point_rules P.plan) step (state_of (entry_of outcomes.now v))
+        (group_of P.plan (map link_of arcs.now) (entry_of outcomes.now) v)))
+        (range_with_len 0 (length outcomes.now))) }
+    ensures no_fewer { P.count program.old ≤ P.count program.new }
+    ensures no_more { P.count program.new ≤ P.count program.old + length outcomes.now }
 {
-    let groups = groups_at(alloc, program, arcs, now, left)?;
-    advance(alloc, program, step, left, &groups)
+    let groups = groups_at(alloc, program, arcs, now, outcomes)?;
+    advance(alloc, program, step, outcomes, &groups)
 }
 
 /// The arcs that hold the instant, in order.
@@ -206,16 +210,16 @@ pub(crate) fn starts_at<S: Plain>(
     t: u64,
 ) -> Result<Vec<Option<Next<S>>>, NoMemory>
     requires { length start.now ≡ length table.now.lives }
-    ensures len { IfOk result (λ left. length left.items ≡ length table.now.lives) }
-    ensures start { IfOk result (λ left. (v : ℕ) → entry_of left.items v
+    ensures len { IfOk result (λ outcomes. length outcomes.items ≡ length table.now.lives) }
+    ensures start { IfOk result (λ outcomes. (v : ℕ) → entry_of outcomes.items v
         ≡ option_map idle (start_at table.now.lives (λ w _. slice_get start.now w) t v)) }
 {
-    let mut left = Vec::with_capacity(alloc, start.len())?;
+    let mut outcomes = Vec::with_capacity(alloc, start.len())?;
     for v in 0..table.vertices() {
         let own = idle_at(table.life(v), start[v as usize], t);
-        left.push(own)?;
+        outcomes.push(own)?;
     }
-    Ok(left)
+    Ok(outcomes)
 }
 
 /// A vertex with its starting state, where it is alive at the instant.
@@ -225,20 +229,20 @@ fn idle_at<S: Plain>(life: &Life, state: S, t: u64) -> Option<Next<S>>
     life.holds(t).then_some(Next { state, send: false })
 }
 
-/// Whether what a vertex was left with says that it sends.
-fn is_sending<S: Plain>(left: Option<Next<S>>) -> bool
-    ensures { result ≡ sends left }
+/// Whether the outcome of a vertex says that it sends.
+fn is_sending<S: Plain>(outcome: Option<Next<S>>) -> bool
+    ensures { result ≡ sends outcome }
 {
-    left.is_some_and(|own| own.send)
+    outcome.is_some_and(|own| own.send)
 }
 
 /// Whether no vertex sends.
-fn is_silent<S: Plain>(left: &[Option<Next<S>>]) -> bool
-    ensures silent { OnTrue result ((v : ℕ) → sends (entry_of left.now v) ≡ false) }
+fn is_silent<S: Plain>(outcomes: &[Option<Next<S>>]) -> bool
+    ensures silent { OnTrue result ((v : ℕ) → sends (entry_of outcomes.now v) ≡ false) }
     ensures sending { OnFalse result
-        ((v : ℕ) × ((v < length left.now) × (sends (entry_of left.now v) ≡ true))) }
+        ((v : ℕ) × ((v < length outcomes.now) × (sends (entry_of outcomes.now v) ≡ true))) }
 {
-    for own in left {
+    for own in outcomes {
         if is_sending(*own) {
             return false;
         }
@@ -247,16 +251,16 @@ fn is_silent<S: Plain>(left: &[Option<Next<S>>]) -> bool
 }
 
 /// Whether the supersteps stop here: every later one would change nothing.
-pub(crate) fn is_over<P: PointProgram>(left: &[Option<Next<P::State>>]) -> bool
+pub(crate) fn is_over<P: PointProgram>(outcomes: &[Option<Next<P::State>>]) -> bool
     ensures always { OnTrue result (P.plan.always ≡ false) }
-    ensures silent { OnTrue result ((v : ℕ) → sends (entry_of left.now v) ≡ false) }
+    ensures silent { OnTrue result ((v : ℕ) → sends (entry_of outcomes.now v) ≡ false) }
     ensures sending { OnFalse result (P.plan.always ≡ false
-        → (v : ℕ) × ((v < length left.now) × (sends (entry_of left.now v) ≡ true))) }
+        → (v : ℕ) × ((v < length outcomes.now) × (sends (entry_of outcomes.now v) ≡ true))) }
 {
     if P::ALWAYS {
         return false;
     }
-    is_silent(left)
+    is_silent(outcomes)
 }
 
 /// The interval of one instant.
@@ -271,13 +275,13 @@ pub(crate) fn only(t: u64) -> Interval
 /// The states, and how many supersteps were made.
 pub(crate) fn ran<S: Plain>(
     alloc: Global,
-    left: &[Option<Next<S>>],
+    outcomes: &[Option<Next<S>>],
     made: u32,
 ) -> Result<RanAt<S>, NoMemory>
     ensures made { IfOk result (λ ran. ran.made ≡ made) }
-    ensures states { IfOk result (λ ran. ran.states.items ≡ map state_of left.now) }
+    ensures states { IfOk result (λ ran. ran.states.items ≡ map state_of outcomes.now) }
 {
-    let states = left
+    let states = outcomes
         .iter()
         .map(|own| own.map(|own| own.state))
         .collect(alloc)?;

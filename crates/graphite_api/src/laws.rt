@@ -15,8 +15,8 @@ pub fn silence_lasts<S, M>()
         → (v : ℕ) → after plan snapshot j v ≡ after plan snapshot k v }
 {}
 
-/// So what the vertices are left with after the supersteps that are made is what all those allowed
-/// would leave, at every instant below the horizon.
+/// So the outcomes of the supersteps that are made are those of all that are allowed, at every instant
+/// below the horizon.
 pub fn early_stop_changes_nothing<S, M>()
     ensures { (plan : Plan S M) (snapshots : ℕ → Snapshot S) (vertices horizon steps t : ℕ)
         → t < horizon → ((w : ℕ) → vertices ≤ w → (snapshots t).start w ≡ None)
@@ -27,9 +27,9 @@ pub fn early_stop_changes_nothing<S, M>()
 /// Where edges lead both ways, a vertex is told by the sources of the links into it and by the
 /// targets of the links out of it.
 pub fn both_ends_tell<S, M>()
-    ensures { (plan : Plan S M) (links : List Link) (left : ℕ → Option (Next S)) (v : ℕ)
-        → group_of plan (both_ways links) left v
+    ensures { (plan : Plan S M) (links : List Link) (outcomes : ℕ → Option (Next S)) (v : ℕ)
+        → group_of plan (both_ways links) outcomes v
         ≡ sorted plan.order
-        (filter_map (λ link. note_along plan (left link.from) link) (filter (λ link. link.to == v) links)
-        ++ filter_map (λ link. note_along plan (left link.to) link) (filter (λ link. link.from == v) links)) }
+        (filter_map (λ link. note_along plan (outcomes link.from) link) (filter (λ link. link.to == v) links)
+        ++ filter_map (λ link. note_along plan (outcomes link.to) link) (filter (λ link. link.from == v) links)) }
 {}

@@ -23,5 +23,8 @@ pub use program::Program;
 pub use ran_at::RanAt;
 pub use table::ArcTable;
 
+/// How many supersteps a run may have.
+pub const STEP_LIMIT: u32 = 2_097_152;
+
 #[cfg(test)]
 mod tests;

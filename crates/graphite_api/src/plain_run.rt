@@ -1,9 +1,10 @@
-ghost use Rattle.std.specs.Prelude.{◌≡◌, ◌+◌, ◌^◌, ◌<◌, ℕ, length, slice_get, IfOk, OnOk};
+//! A run at one instant, written plainly.
+ghost use Rattle.std.specs.Prelude.{◌≡◌, ◌+◌, ◌*◌, ◌^◌, ◌<◌, ◌≤◌, ℕ, length, slice_get, IfOk, OnOk};
 ghost use Rattle.graphite_time.specs.declared.TheConstants.{LAST};
 ghost use Rattle.graphite_api.specs.Snapshot.{snapshot_at};
 ghost use Rattle.graphite_api.specs.Supersteps.{state_after};
 ghost use Rattle.graphite_api.specs.Calls.{supersteps_made, calls_made};
-ghost use Rattle.graphite_api.specs.Left.{entry_of};
+ghost use Rattle.graphite_api.specs.Outcomes.{entry_of};
 
 use crate::instant::{arcs_that_hold, is_over, only, ran, starts_at, superstep_at};
 use crate::{ArcTable, PointProgram, RanAt};
@@ -14,7 +15,8 @@ use std::alloc::Global;
 /// plainly, as the definitions say it, so that every other run can be compared with it. `start` is
 /// the state that each vertex starts with; of it, that of the vertices counts which are alive at the
 /// instant. The instant is below 2^44, and the program's count of calls below 2^127. It goes once over
-/// all arcs, and in each superstep over the vertices and the arcs that hold the instant.
+/// all arcs, and in each superstep over the vertices and the arcs that hold the instant. At [`NoMemory`]
+/// the program was called at most once for each vertex in each superstep.
 pub fn run_at<P: PointProgram>(
     alloc: Global,
     program: &mut P,
@@ -36,15 +38,17 @@ pub fn run_at<P: PointProgram>(
     ensures calls { OnOk result (P.count program.new ≡ P.count program.old
         + (let snapshot = snapshot_at table.now.lives table.now.arcs (λ w _. slice_get start.now w) t in
         calls_made P.State.cmp P.plan (λ _. snapshot) (length table.now.lives) 1 steps)) }
+    ensures no_fewer { P.count program.old ≤ P.count program.new }
+    ensures no_more { P.count program.new ≤ P.count program.old + steps * length table.now.lives }
 {
     let now = only(t);
     let arcs = arcs_that_hold(alloc, table.arcs(), t)?;
-    let mut left = starts_at(alloc, table, start, t)?;
+    let mut outcomes = starts_at(alloc, table, start, t)?;
     for done in 0..steps {
-        left = superstep_at(alloc, program, &arcs, now, done + 1, &left)?;
-        if is_over::<P>(&left) {
-            return ran(alloc, &left, done + 1);
+        outcomes = superstep_at(alloc, program, &arcs, now, done + 1, &outcomes)?;
+        if is_over::<P>(&outcomes) {
+            return ran(alloc, &outcomes, done + 1);
         }
     }
-    ran(alloc, &left, steps)
+    ran(alloc, &outcomes, steps)
 }

@@ -1,9 +1,7 @@
-ghost use Rattle.std.specs.Prelude.{◌≡◌, ℕ, ◌+◌, ◌^◌, ◌<◌, ◌≤◌, Bool, List, Option};
-ghost use Rattle.graphite_time.specs.declared.interval.Interval.{Interval};
+//! The trait of programs whose vertices compute and send along their arcs.
+ghost use Rattle.std.specs.Prelude.{◌≡◌, ℕ, ◌+◌, ◌^◌, ◌<◌, ◌≤◌, Bool};
 ghost use Rattle.graphite_time.specs.Interval.{start_of, end_of};
-ghost use Rattle.graphite_warp.specs.declared.message.Message.{Message};
-ghost use Rattle.graphite_api.specs.declared.arc.Arc.{Arc};
-ghost use Rattle.graphite_api.specs.declared.next.Next.{Next};
+ghost use Rattle.graphite_api.specs.Rules.{Rules};
 
 use crate::{Arc, Message, Next};
 use graphite_part::Plain;
@@ -23,11 +21,8 @@ pub trait Program {
 
     ghost ALWAYS: { Bool };
 
-    /// What `compute` answers to the superstep, the state and the group.
-    ghost next_of: { ℕ → Self.State → List Self.Note → Next Self.State };
-
-    /// What `scatter` answers to the state, the arc and the interval.
-    ghost message_of: { Self.State → Arc → Interval → Option (Message Self.Note) };
+    /// What `compute` and `scatter` answer, the order of notes, and `ALWAYS`.
+    ghost rules: { Rules Self.State Self.Note };
 
     /// How often `compute` was called.
     ghost count: { Self → ℕ };
@@ -36,13 +31,13 @@ pub trait Program {
     fn calls(&self) -> u128
         ensures { result ≡ count self.now };
 
-    /// What a vertex is left with that has this state in superstep `step`, which is at least 1, and
+    /// The outcome of superstep `step`, which is at least 1, for a vertex that has this state and
     /// was told this group of notes, in rising order. It may be called as long as the count of
     /// calls is below 2^128 - 1.
     fn compute(&mut self, step: u32, state: Self::State, group: &[Self::Note]) -> Next<Self::State>
         requires room { count self.old + 1 < 2 ^ 128 }
         requires step { 1 ≤ step }
-        ensures next { result ≡ next_of step state group.now }
+        ensures next { result ≡ rules.next step state group.now }
         ensures counted { count self.new ≡ count self.old + 1 };
 
     /// What a vertex that has this state over an interval of the arc's instants tells the arc's
@@ -50,5 +45,11 @@ pub trait Program {
     fn scatter(&self, state: Self::State, arc: &Arc, over: Interval) -> Option<Message<Self::Note>>
         requires starts { start_of arc.now.over ≤ start_of over }
         requires ends { end_of over ≤ end_of arc.now.over }
-        ensures { result ≡ message_of state arc.now over };
+        ensures { result ≡ rules.message state arc.now over };
+
+    /// The rules order notes as they are compared.
+    ghost order_is: { Self.Note.cmp ≡ rules.order };
+
+    /// The rules say whether every vertex computes in every superstep.
+    ghost always_is: { ALWAYS ≡ rules.always };
 }

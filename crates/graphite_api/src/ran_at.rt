@@ -1,3 +1,4 @@
+//! What a run at one instant gives.
 use graphite_part::Plain;
 
 /// What supersteps at one instant gave.

@@ -1,6 +1,8 @@
+//! The table of lives and arcs that a program runs on.
 ghost use Rattle.std.specs.Prelude.{◌≡◌, ◌+◌, ◌^◌, ◌<◌, ◌≤◌, All, length, IfOk};
 ghost use Rattle.std.specs.List.Sorted.{IsNonDecreasingBy, IsPermutation};
 ghost use Rattle.std.specs.List.{AllWithin};
+ghost use Rattle.graphite_time.specs.Life.{IsLife};
 ghost use Rattle.graphite_warp.specs.Sorted.{sorted};
 ghost use Rattle.graphite_api.specs.ArcOrder.{arc_order};
 ghost use Rattle.graphite_api.specs.Table.{life_of, arcs_out, IsArcOn, IsTable, IsStart, AreStarts};
@@ -43,6 +45,8 @@ impl ArcTable {
     {
         let mut arcs = arcs;
         sort_arcs(&mut arcs);
+        see_lives(&lives);
+        see_costs(&arcs);
         let starts = starts_of(alloc, &arcs, lives.len() as u32)?;
         Ok(ArcTable {
             lives,
@@ -53,7 +57,8 @@ impl ArcTable {
 
     /// How many vertices there are. They are numbered from 0.
     pub fn vertices(&self) -> u32
-        ensures { result ≡ length self.now.lives }
+        ensures vertices { result ≡ length self.now.lives }
+        ensures few { length self.now.lives < 2 ^ 32 }
     {
         self.lives.len() as u32
     }
@@ -61,7 +66,8 @@ impl ArcTable {
     /// The life of a vertex.
     pub fn life(&self, v: u32) -> &Life
         requires { v < length self.now.lives }
-        ensures { result.now ≡ life_of self.now.lives v }
+        ensures life { result.now ≡ life_of self.now.lives v }
+        ensures lifespans { IsLife result.now }
     {
         &self.lives[v as usize]
     }
@@ -93,6 +99,31 @@ fn arcs_between(arcs: &[Arc], v: u32, start: usize, end: usize) -> &[Arc]
     ensures { result.now ≡ arcs_out arcs.now v }
 {
     &arcs[start..end]
+}
+
+/// Shows what every life keeps: its lifespans rise, with gaps.
+fn see_lives(lives: &[Life])
+    ensures { All IsLife lives.now }
+{
+    for life in lives {
+        let _spans = life.spans();
+    }
+}
+
+/// Shows that a cost is a number of 32 bits.
+fn see_cost(arc: &Arc)
+    ensures { arc.now.cost < 2 ^ 32 }
+{
+    let _cost = arc.cost;
+}
+
+/// Shows it of the costs of all arcs.
+fn see_costs(arcs: &[Arc])
+    ensures { All (λ arc. arc.cost < 2 ^ 32) arcs.now }
+{
+    for arc in arcs {
+        see_cost(arc);
+    }
 }
 
 /// Puts the arcs in order. Repeats stay.

@@ -1,3 +1,4 @@
+//! A table of a small graph that changes.
 ghost use Rattle.std.specs.Prelude.{All};
 ghost use Rattle.std.specs.Bool.{OnTrue};
 ghost use Rattle.graphite_api.specs.Table.{IsArcOn};

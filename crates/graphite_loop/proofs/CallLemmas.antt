@@ -11,12 +11,12 @@ use Rattle.graphite_part.specs.Pieces.{AreRuns, run_of}
 use Rattle.graphite_part.proofs.PiecesLemmas.{runs_of-pieces}
 use Rattle.graphite_api.specs.declared.arc.Arc.{Arc}
 use Rattle.graphite_api.specs.Plan.{Plan}
-use Rattle.graphite_api.specs.Supersteps.{group_in, input_of, input_in}
+use Rattle.graphite_api.specs.Supersteps.{group_in, input_in}
 use Rattle.graphite_api.specs.Calls.{same_input, calls_in}
 use Rattle.graphite_api.proofs.CallLemmas.{same_input-tells}
-use Rattle.graphite_loop.specs.Sweep.{state_of}
+use Rattle.graphite_api.specs.Rules.{point_rules, state_of, input_of}
 use Rattle.graphite_loop.specs.Superstep.{Standing, list_at, IsSuperstep}
-use Rattle.graphite_loop.specs.Points.{point_rules, instant_of, StandsAfter}
+use Rattle.graphite_loop.specs.Points.{instant_of, StandsAfter}
 use Rattle.graphite_loop.proofs.PointLemmas.{input_is}
 
 -- a sum over lists is the sum over their numbers
@@ -31,7 +31,7 @@ sum_by-range f g (x ∷ xs) d a same =
 module _ {S M : Type 0} (order : S → S → Ordering) (plan : Plan S M) (total : IsTotalOrder order) (exact : IsExact order) (total' : IsTotalOrder plan.order) (exact' : IsExact plan.order) (arcs : List Arc) (init : List (List (Piece S))) (horizon : ℕ) (past : (v t : ℕ) → horizon ≤ t → (instant_of arcs init t).start v ≡ None) where
   no_input : (k v t : ℕ) → horizon ≤ t → input_in plan (instant_of arcs init t) (suc k) v ≡ None
   no_input k v t late =
-      ap (λ o. input_of plan (suc k) o (group_in plan (instant_of arcs init t) (suc k) v)) (ap state_of (Rattle.graphite_api.proofs.SuperstepLemmas.after-none plan (instant_of arcs init t) k v (past v t late)))
+      ap (λ o. input_of (point_rules plan) (suc k) o (group_in plan (instant_of arcs init t) (suc k) v)) (ap state_of (Rattle.graphite_api.proofs.SuperstepLemmas.after-none plan (instant_of arcs init t) k v (past v t late)))
 
   module _ (k : ℕ) (old : Standing S M) (before : StandsAfter plan arcs init k old) (new : Standing S M) (answer : Bool) (calls_old calls_new : ℕ) (step : IsSuperstep (point_rules plan) arcs (suc k) old new answer calls_old calls_new) where
     -- of one vertex

@@ -1,118 +1,107 @@
--- The messages that the pieces of sent states bring along the arcs are, at each instant, the notes of
--- that instant's senders along the links of that instant.
-use Rattle.std.proofs.Common.{◌≡◌, ◌∙◌, sym, ap, refl, ℕ, ◌==◌, ◌&&◌, Bool, true, false, cond, List, [], ◌∷◌, ◌++◌, map, filter_map, Option, Some, None, option_map, arith, min, max, nat_lt, nat_le}
-use Rattle.std.specs.List.{flat_map, cons_option}
-use Rattle.std.specs.Option.{option_and_then, option_to_list}
-use Rattle.std.proofs.lemmas.List.{append-nil, map-append}
-use Rattle.std.proofs.lemmas.List.Elements.{filter-append}
-use Rattle.std.proofs.lemmas.Bool.{cond-true, cond-false}
-use Rattle.std.proofs.lemmas.Bool.Decides.{nat_tests}
-use Rattle.graphite_time.specs.declared.interval.Interval.{Interval}
-use Rattle.graphite_time.specs.Interval.{holds}
-use Rattle.graphite_time.specs.Meet.{meet_of}
-use Rattle.graphite_time.proofs.MeetLemmas.{Meets, meet_of-Meets}
-use Rattle.graphite_time.proofs.LifeLemmas.{holds-true}
-use Rattle.graphite_part.specs.declared.piece.Piece.{Piece}
-use Rattle.graphite_part.specs.Pieces.{value_at, IsChain}
-use Rattle.graphite_part.proofs.PiecesLemmas.{value_at-tail}
-use Rattle.graphite_warp.specs.declared.message.Message.{Message}
-use Rattle.graphite_warp.specs.Sorted.{sorted}
-use Rattle.graphite_warp.specs.Warp.{held_notes, notes_at}
-use Rattle.graphite_api.specs.declared.arc.Arc.{Arc}
-use Rattle.graphite_api.specs.declared.next.Next.{Next}
-use Rattle.graphite_api.specs.Plan.{Plan, message_over}
-use Rattle.graphite_api.specs.Snapshot.{link_of, arcs_at}
-use Rattle.graphite_api.specs.Supersteps.{note_along, notes_to, group_of}
-use Rattle.graphite_loop.specs.Sweep.{sent_of, brought_by, brought, delivered}
-use Rattle.graphite_loop.specs.Points.{point_rules}
+-- Deliveries, piece by piece, arc by arc and vertex by vertex.
+use Rattle.std.proofs.Common.{◌≡◌, ℕ, suc, ◌+◌, ◌-◌, ◌<◌, ◌≤◌, ◌==◌, Bool, true, false, List, [], ◌∷◌, ◌++◌, length, get_or, take, drop, map, Option, refl, sym, ◌∙◌, ap, subst, arith, ⊎_elim, IfSome, IfNone, nat_lt}
+use Rattle.std.specs.List.{flat_map}
+use Rattle.std.proofs.lemmas.List.{take_more, map-append, append-nil, append_assoc, get_or_default, take_all, length-drop}
+use Rattle.std.proofs.Common.{drop-cons, add-one}
+use Rattle.std.proofs.lemmas.Grind.{flat_map-append}
+use Rattle.std.proofs.lemmas.List.Concat.{flat_map-cons}
+use Rattle.std.proofs.lemmas.Bool.{cond-true, cond-false, cases_lt, eq-eqb, eqb-true, false_from_ne_true, lt-ltb, le-ltb}
+use Rattle.std.specs.Bool.{then_some}
+use Rattle.graphite_loop.specs.declared.delivery.Delivery.{Delivery}
+use Rattle.graphite_loop.proofs.DropLemmas.{not_dropped, first_dropped}
+use Rattle.graphite_loop.specs.Deliveries.{message_of, inbox_of, AreRising}
 
-held-append : {M : Type 0} (xs ys : List (Message M)) (t : ℕ) → held_notes (xs ++ ys) t ≡ held_notes xs t ++ held_notes ys t
-held-append xs ys t =
-    ap (map (λ message. message.note)) (filter-append (λ message. holds message.over t) xs ys) ∙ map-append _ _ _
+-- one more element of a flat map
+flat_map-take : {X Y : Type 0} (f : X → List Y) (xs : List X) (i : ℕ) (x : X) → i < length xs → x ≡ get_or xs i x → flat_map f (take (i + 1) xs) ≡ flat_map f (take i xs) ++ f x
+flat_map-take f xs i x within is =
+    ap (flat_map f) (take_more xs i x within ∙ ap (λ y. take i xs ++ y ∷ []) (sym is))
+    ∙ flat_map-append f (take i xs) (x ∷ [])
+    ∙ ap (λ ys. flat_map f (take i xs) ++ ys) (flat_map-cons f x [] ∙ append-nil (f x))
 
-module _ {S M : Type 0} (plan : Plan S M) where
-  -- the note that a state tells along an arc
-  abbrev told : Arc → Option S → List M
-  told arc None = []
-  told arc (Some state) = option_to_list (plan.note state arc.time arc.cost)
+-- one more arc
+pub arc-taken : {X Y : Type 0} (f : X → List Y) (xs : List X) (out0 out out' : List Y) (i : ℕ) (x : X) → i < length xs → x ≡ get_or xs i x → out ≡ out0 ++ flat_map f (take i xs) → out' ≡ out ++ f x → out' ≡ out0 ++ flat_map f (take (i + 1) xs)
+arc-taken f xs out0 out out' i x within is so_far pushed =
+    pushed ∙ ap (λ ys. ys ++ f x) so_far ∙ append_assoc out0 (flat_map f (take i xs)) (f x) ∙ ap (λ ys. out0 ++ ys) (sym (flat_map-take f xs i x within is))
 
-  nothing : (b : Bool) → ◌≡◌ {A = List M} [] (cond b [] [])
-  nothing true = refl
-  nothing false = refl
+-- deliveries from a vertex on have none to an earlier one
+pub no_inbox : {M : Type 0} (deliveries : List (Delivery M)) (a w : ℕ) → AreRising a deliveries → w < a → inbox_of deliveries w ≡ []
+no_inbox [] a w rising less = refl
+no_inbox (delivery ∷ deliveries) a w rising less =
+    let other : (delivery.to == w) ≡ false = false_from_ne_true _ (λ e. (let same = eqb-true delivery.to w e in absurd (omega (arith, same, rising.0, less)))) in
+    ap (map message_of) (cond-false _ _ _ other) ∙ no_inbox deliveries delivery.to w rising.1 (omega (arith, rising.0, less))
 
-  -- one piece of sent state, along one arc
-  held-common : (x y : Interval) (t : ℕ) (o : Option Interval) (n : Option M) → Meets x y t o
-      → held_notes (option_to_list (option_and_then (λ over. option_map (message_over over) n) o)) t ≡ cond (holds x t && holds y t) (option_to_list n) []
-  held-common x y t None n apart = sym (cond-false _ _ _ apart)
-  held-common x y t (Some over) None common =
-      nothing (holds x t && holds y t)
-  held-common x y t (Some over) (Some note) common =
-      ap (λ b. map (λ message. message.note) (cond b (message_over over note ∷ []) [])) common
-      ∙ elim (holds x t && holds y t) as (λ v. map (λ message. message.note) (cond v (message_over over note ∷ []) []) ≡ cond v (note ∷ []) []) [ true ↦ refl | false ↦ refl ]
+-- the deliveries to v among the first ones
+pub record AreOwn {M : Type 0} (deliveries : List (Delivery M)) (v count : ℕ) : Type 0 where
+  pub within : count ≤ length deliveries
+  pub own : inbox_of deliveries v ≡ map message_of (take count deliveries) ++ inbox_of (drop count deliveries) v
+  pub others : (w : ℕ) → v < w → inbox_of deliveries w ≡ inbox_of (drop count deliveries) w
+  pub rising : AreRising v (drop count deliveries)
 
-  held-piece : (arc : Arc) (piece : Piece S) (t : ℕ) → held_notes (brought_by (point_rules plan) arc piece) t ≡ cond (holds piece.over t && holds arc.over t) (told arc (Some piece.value)) []
-  held-piece arc piece t =
-      held-common piece.over arc.over t (meet_of piece.over arc.over) (plan.note piece.value arc.time arc.cost) (meet_of-Meets piece.over arc.over t)
+pub AreOwn-none : {M : Type 0} (deliveries : List (Delivery M)) (v : ℕ) → AreRising v deliveries → AreOwn deliveries v 0
+AreOwn-none deliveries v rising = record { within = omega arith; own = refl; others = λ w less. refl; rising = rising }
 
-  -- all pieces of sent state, along one arc: at most one of them holds the instant
-  held-brought : (arc : Arc) (pieces : List (Piece S)) (t : ℕ) → IsChain pieces → held_notes (brought (point_rules plan) pieces arc) t ≡ cond (holds arc.over t) (told arc (value_at pieces t)) []
-  held-brought arc [] t chain = nothing (holds arc.over t)
-  held-brought arc (piece ∷ pieces) t chain =
-      held-append (brought_by (point_rules plan) arc piece) (brought (point_rules plan) pieces arc) t
-      ∙ ap (λ notes. notes ++ held_notes (brought (point_rules plan) pieces arc) t) (held-piece arc piece t)
-      ∙ ap (λ notes. cond (holds piece.over t && holds arc.over t) (told arc (Some piece.value)) [] ++ notes) (held-brought arc pieces t chain.1)
-      ∙ first (holds piece.over t) refl
-    where
-      first : (b : Bool) → holds piece.over t ≡ b
-          → cond (b && holds arc.over t) (told arc (Some piece.value)) [] ++ cond (holds arc.over t) (told arc (value_at pieces t)) []
-          ≡ cond (holds arc.over t) (told arc (cond b (Some piece.value) (value_at pieces t))) []
-      first true here =
-          let later : value_at pieces t ≡ None = value_at-tail piece pieces t chain (holds-true piece.over t here).1 in
-          ap (λ o. cond (holds arc.over t) (told arc (Some piece.value)) [] ++ cond (holds arc.over t) (told arc o) []) later
-          ∙ elim (holds arc.over t) as (λ v. cond v (told arc (Some piece.value)) [] ++ cond v [] [] ≡ cond v (told arc (Some piece.value)) []) [ true ↦ append-nil _ | false ↦ refl ]
-      first false here = refl
+rest_after : {M : Type 0} (deliveries : List (Delivery M)) (count : ℕ) (delivery : Delivery M) → count < length deliveries → delivery ≡ get_or deliveries count delivery → drop count deliveries ≡ delivery ∷ drop (count + 1) deliveries
+rest_after deliveries count delivery within is =
+    drop-cons deliveries count delivery within ∙ ap (λ l. l ∷ drop (suc count) deliveries) (sym is) ∙ ap (λ n. delivery ∷ drop n deliveries) (sym (add-one count))
 
-  -- what a sender tells along an arc is its note along the link
-  told-sent : (arc : Arc) (own : Option (Next S)) (notes : List M) → told arc (sent_of own) ++ notes ≡ cons_option (note_along plan own (link_of arc)) notes
-  told-sent arc None notes = refl
-  told-sent arc (Some own) notes =
-      elim own.send as (λ v. told arc (cond v (Some own.state) None) ++ notes ≡ cons_option (cond v (plan.note own.state arc.time arc.cost) None) notes) [
-        | true ↦ elim (plan.note own.state arc.time arc.cost) as (λ o. option_to_list o ++ notes ≡ cons_option o notes) [ None ↦ refl | Some note ↦ refl ]
-        | false ↦ refl
-      ]
+pub AreOwn-more : {M : Type 0} (deliveries : List (Delivery M)) (v count : ℕ) (delivery : Delivery M) → count < length deliveries → delivery ≡ get_or deliveries count delivery → delivery.to ≡ v → AreOwn deliveries v count → AreOwn deliveries v (count + 1)
+AreOwn-more deliveries v count delivery within is to own =
+    let rest = rest_after deliveries count delivery within is in
+    let here : (delivery.to == v) ≡ true = eq-eqb _ _ to in
+    let mine : inbox_of (drop count deliveries) v ≡ message_of delivery ∷ inbox_of (drop (count + 1) deliveries) v = ap (λ ls. inbox_of ls v) rest ∙ ap (map message_of) (cond-true _ _ _ here) in
+    let more : map message_of (take (count + 1) deliveries) ≡ map message_of (take count deliveries) ++ message_of delivery ∷ [] = ap (map message_of) (take_more deliveries count delivery within ∙ ap (λ l. take count deliveries ++ l ∷ []) (sym is)) ∙ map-append message_of (take count deliveries) (delivery ∷ []) in
+    record {
+      within = omega (arith, within);
+      own = own.own ∙ ap (λ ms. map message_of (take count deliveries) ++ ms) mine
+          ∙ sym (append_assoc (map message_of (take count deliveries)) (message_of delivery ∷ []) (inbox_of (drop (count + 1) deliveries) v))
+          ∙ ap (λ ms. ms ++ inbox_of (drop (count + 1) deliveries) v) (sym more);
+      others = λ w less. own.others w less ∙ ap (λ ls. inbox_of ls w) rest ∙ ap (map message_of) (cond-false _ _ _ (other w less));
+      rising = (let pair = subst (AreRising v) rest own.rising in subst (λ n. AreRising n (drop (count + 1) deliveries)) to pair.1);
+    }
+  where
+    other : (w : ℕ) → v < w → (delivery.to == w) ≡ false
+    other w less = false_from_ne_true _ (λ e. (let same = eqb-true delivery.to w e in absurd (omega (arith, same, to, less))))
 
-  module _ (left : ℕ → Option (Next S)) (sent : ℕ → List (Piece S)) (t : ℕ) (chains : (v : ℕ) → IsChain (sent v)) (values : (v : ℕ) → value_at (sent v) t ≡ sent_of (left v)) where
-    held-arc : (arc : Arc) → held_notes (brought (point_rules plan) (sent arc.from) arc) t ≡ cond (holds arc.over t) (told arc (sent_of (left arc.from))) []
-    held-arc arc =
-        held-brought arc (sent arc.from) t (chains arc.from) ∙ ap (λ o. cond (holds arc.over t) (told arc o) []) (values arc.from)
-
-    -- the messages along all arcs
-    held-delivered : (arcs : List Arc) (w : ℕ) → held_notes (delivered (point_rules plan) sent arcs w) t ≡ notes_to plan (map link_of (arcs_at arcs t)) left w
-    held-delivered [] w = refl
-    held-delivered (arc ∷ arcs) w =
-        leads (held-delivered arcs w) (arc.to == w) refl
+-- when the next delivery is to a later vertex, or there is none
+pub AreOwn-past : {M : Type 0} (deliveries : List (Delivery M)) (v count : ℕ) → ((delivery : Delivery M) → count < length deliveries → delivery ≡ get_or deliveries count delivery → delivery.to ≡ v → ⊥) → AreOwn deliveries v count → AreRising (v + 1) (drop count deliveries) × (inbox_of deliveries v ≡ map message_of (take count deliveries))
+AreOwn-past {M} deliveries v count other own =
+    let rising = by (drop count deliveries) refl own.rising in
+    (rising, own.own ∙ ap (λ ms. map message_of (take count deliveries) ++ ms) (no_inbox (drop count deliveries) (v + 1) v rising (omega arith)) ∙ append-nil _)
+  where
+    by : (rest : List (Delivery M)) → drop count deliveries ≡ rest → AreRising v rest → AreRising (v + 1) (drop count deliveries)
+    by [] e rising = subst (AreRising (v + 1)) (sym e) tt
+    by (delivery ∷ rest) e rising =
+        let within : count < length deliveries = not_dropped deliveries count delivery rest e in
+        let is : delivery ≡ get_or deliveries count delivery = sym (first_dropped deliveries count delivery rest e) in
+        subst (AreRising (v + 1)) (sym e) (later (delivery.to) rising.0 (λ same. other delivery within is same), rising.1)
       where
-        lasts : (b : Bool) → arc.to == w ≡ true → cond b (told arc (sent_of (left arc.from))) [] ++ notes_to plan (map link_of (arcs_at arcs t)) left w ≡ notes_to plan (map link_of (cond b (arc ∷ arcs_at arcs t) (arcs_at arcs t))) left w
-        lasts true here =
-            told-sent arc (left arc.from) _ ∙ sym (ap (filter_map (λ link. note_along plan (left link.from) link)) (cond-true _ _ _ here))
-        lasts false here = refl
+        later : (n : ℕ) → v ≤ n → (n ≡ v → ⊥) → v + 1 ≤ n
+        later n le differs = ⊎_elim (λ (less : v < n). omega (arith, less)) (λ (ge : n ≤ v). absurd (differs (omega (arith, le, ge)))) (cases_lt v n)
 
-        passes : (b : Bool) → arc.to == w ≡ false → notes_to plan (map link_of (arcs_at arcs t)) left w ≡ notes_to plan (map link_of (cond b (arc ∷ arcs_at arcs t) (arcs_at arcs t))) left w
-        passes true here = sym (ap (filter_map (λ link. note_along plan (left link.from) link)) (cond-false _ _ _ here))
-        passes false here = refl
+-- the delivery at a place, whichever way it is read
+pub same_delivery : {M : Type 0} (deliveries : List (Delivery M)) (count : ℕ) (x y : Delivery M) (v : ℕ) → count < length deliveries → y ≡ get_or deliveries count y → y.to ≡ v → (get_or deliveries count x).to ≡ v
+same_delivery deliveries count x y v within is to =
+    ap (λ (l : Delivery _). l.to) (get_or_default deliveries count x y within ∙ sym is) ∙ to
 
-        leads : held_notes (delivered (point_rules plan) sent arcs w) t ≡ notes_to plan (map link_of (arcs_at arcs t)) left w → (b : Bool) → arc.to == w ≡ b → held_notes (delivered (point_rules plan) sent (arc ∷ arcs) w) t ≡ notes_to plan (map link_of (arcs_at (arc ∷ arcs) t)) left w
-        leads later true here =
-            ap (λ list. held_notes (flat_map (λ arc. brought (point_rules plan) (sent arc.from) arc) list) t) (cond-true _ _ _ here)
-            ∙ held-append (brought (point_rules plan) (sent arc.from) arc) (delivered (point_rules plan) sent arcs w) t
-            ∙ ap (λ notes. notes ++ held_notes (delivered (point_rules plan) sent arcs w) t) (held-arc arc)
-            ∙ ap (λ notes. cond (holds arc.over t) (told arc (sent_of (left arc.from))) [] ++ notes) later
-            ∙ lasts (holds arc.over t) here
-        leads later false here =
-            ap (λ list. held_notes (flat_map (λ arc. brought (point_rules plan) (sent arc.from) arc) list) t) (cond-false _ _ _ here)
-            ∙ later
-            ∙ passes (holds arc.over t) here
+-- all that comes after the first ones
+pub rest_whole : {X : Type 0} (n : ℕ) (xs : List X) → take (length xs - n) (drop n xs) ≡ drop n xs
+rest_whole n xs = take_all (length xs - n) (drop n xs) (omega (arith, length-drop n xs))
 
-    -- the sorted notes of a box are the group of that instant
-    pub notes_at-delivered : (arcs : List Arc) (w : ℕ) → notes_at plan.order (delivered (point_rules plan) sent arcs w) t ≡ group_of plan (map link_of (arcs_at arcs t)) left w
-    notes_at-delivered arcs w = ap (sorted plan.order) (held-delivered arcs w)
+-- the deliveries go on from the first one's vertex
+pub first_rising : {M : Type 0} (deliveries : List (Delivery M)) (from : ℕ) (delivery : Delivery M) → 0 < length deliveries → delivery ≡ get_or deliveries 0 delivery → AreRising from deliveries → AreRising delivery.to deliveries
+first_rising [] from delivery some is rising = absurd (omega (arith, some))
+first_rising (first ∷ deliveries) from delivery some is rising =
+    subst (λ (l : Delivery _). AreRising l.to (first ∷ deliveries)) (sym is) (omega arith, rising.1)
+
+-- what holds of a value that may be given
+pub from_then_some : (b : Bool) (v : ℕ) (o : Option ℕ) (P : ℕ → Type 0) → o ≡ then_some b v → P v → IfSome o P
+from_then_some true v o P is h = subst (λ o. IfSome o P) (sym is) h
+from_then_some false v o P is h = subst (λ o. IfSome o P) (sym is) tt
+
+-- and where none is given
+pub from_no_then_some : (v limit : ℕ) (o : Option ℕ) (P : Type 0) → o ≡ then_some (nat_lt v limit) v → (limit ≤ v → P) → IfNone o P
+from_no_then_some v limit o P is h =
+    ⊎_elim
+    (λ (less : v < limit). subst (λ o. IfNone o P) (sym (is ∙ ap (λ b. then_some b v) (lt-ltb v limit less))) tt)
+    (λ (past : limit ≤ v). subst (λ o. IfNone o P) (sym (is ∙ ap (λ b. then_some b v) (le-ltb v limit past))) (h past))
+    (cases_lt v limit)

@@ -1,8 +1,8 @@
 pub mod CallLemmas
-pub mod DeliveryLemmas
+pub mod NoteLemmas
 pub mod DropLemmas
 pub mod Examples
-pub mod LetterLemmas
+pub mod DeliveryLemmas
 pub mod PartLemmas
 pub mod PointLemmas
 pub mod PointRunLemmas

@@ -4,6 +4,7 @@ use Rattle.std.specs.Option.{option_and_then}
 use Rattle.std.proofs.lemmas.Bool.{cond-true, cond-false, cases_lt}
 use Rattle.std.proofs.lemmas.List.{length-take-le}
 use Rattle.std.proofs.lemmas.List.Filters.{length-filter_more}
+use Rattle.std.specs.declared.cmp.Ordering.{Ordering}
 use Rattle.graphite_time.specs.Interval.{start_of, holds}
 use Rattle.graphite_time.proofs.LifeLemmas.{holds-true, holds_before}
 use Rattle.graphite_part.specs.declared.piece.Piece.{Piece}
@@ -16,9 +17,9 @@ use Rattle.graphite_api.specs.declared.next.Next.{Next}
 use Rattle.graphite_warp.specs.declared.message.Message.{Message}
 use Rattle.graphite_warp.specs.declared.touch.Touch.TheVariants.{All}
 use Rattle.graphite_warp.specs.Warp.{notes_at, warped}
-use Rattle.graphite_loop.specs.Sweep.{Rules, left_at, state_of, sent_of}
-use Rattle.graphite_loop.specs.Superstep.{input_with}
-use Rattle.graphite_loop.specs.Vertex.{left_of, input_to, Calls, NoMoreCalls, left_of_pair, next_state, sent_state, pair_computes, inputs_of, Put, AreMade}
+use Rattle.graphite_api.specs.Rules.{Rules, outcome_at, state_of, input_of}
+use Rattle.graphite_loop.specs.Sweep.{sent_of}
+use Rattle.graphite_loop.specs.Vertex.{outcome_of, input_to, Calls, NoMoreCalls, outcome_of_pair, next_state, sent_state, pair_computes, inputs_of, Put, AreMade}
 
 pub AreMade-none : {X Y : Type 0} (f : X → Option Y) → AreMade f [] []
 AreMade-none f = record { runs = record { in_order = tt; values = λ t. refl }; end = omega arith }
@@ -109,14 +110,14 @@ value_at-filter {X} p (piece ∷ pieces) t chain = by (value_at-filter p pieces 
 
 -- the triples so far were computed: what was made of them, and the calls
 pub record HaveComputed {S M : Type 0} (rules : Rules S M) (k : ℕ) (triples : List (Piece (S × List M))) (states sent : List (Piece S)) (before now : ℕ) : Type 0 where
-  pub states_are : AreMade (λ pair. next_state (left_of_pair rules k pair)) triples states
-  pub sent_are : AreMade (λ pair. sent_state (left_of_pair rules k pair)) triples sent
+  pub states_are : AreMade (λ pair. next_state (outcome_of_pair rules k pair)) triples states
+  pub sent_are : AreMade (λ pair. sent_state (outcome_of_pair rules k pair)) triples sent
   pub counted : now ≡ before + length (inputs_of rules k triples)
 
 pub HaveComputed-none : {S M : Type 0} (rules : Rules S M) (k : ℕ) (states sent : List (Piece S)) (count : ℕ) → states ≡ [] → sent ≡ [] → HaveComputed rules k [] states sent count count
 HaveComputed-none rules k states sent count none none' = record {
-  states_are = subst (AreMade (λ pair. next_state (left_of_pair rules k pair)) []) (sym none) (AreMade-none _);
-  sent_are = subst (AreMade (λ pair. sent_state (left_of_pair rules k pair)) []) (sym none') (AreMade-none _);
+  states_are = subst (AreMade (λ pair. next_state (outcome_of_pair rules k pair)) []) (sym none) (AreMade-none _);
+  sent_are = subst (AreMade (λ pair. sent_state (outcome_of_pair rules k pair)) []) (sym none') (AreMade-none _);
   counted = omega arith;
 }
 
@@ -133,12 +134,12 @@ count_more rules k triples before mid now i triple within is so_far one =
 -- what is known when a triple was computed and put behind
 pub HaveComputed-more : {S M : Type 0} (rules : Rules S M) (k : ℕ) (triples : List (Piece (S × List M))) (states sent states' sent' : List (Piece S)) (before mid now i : ℕ) (triple : Piece (S × List M)) (next : Next S)
     → IsChain triples → i < length triples → triple ≡ get_or triples i triple → HaveComputed rules k (take i triples) states sent before mid
-    → next ≡ left_of_pair rules k triple.value → now ≡ mid + cond (pair_computes rules k triple.value) 1 0
+    → next ≡ outcome_of_pair rules k triple.value → now ≡ mid + cond (pair_computes rules k triple.value) 1 0
     → Put states states' triple.over (next_state next) → Put sent sent' triple.over (sent_state next)
     → HaveComputed rules k (take (i + 1) triples) states' sent' before now
 HaveComputed-more rules k triples states sent states' sent' before mid now i triple next chain within is so_far answer count put put' = record {
-  states_are = AreMade-more (λ pair. next_state (left_of_pair rules k pair)) triples states states' i triple chain within is so_far.states_are (subst (λ n. Put states states' triple.over (next_state n)) answer put);
-  sent_are = AreMade-more (λ pair. sent_state (left_of_pair rules k pair)) triples sent sent' i triple chain within is so_far.sent_are (subst (λ n. Put sent sent' triple.over (sent_state n)) answer put');
+  states_are = AreMade-more (λ pair. next_state (outcome_of_pair rules k pair)) triples states states' i triple chain within is so_far.states_are (subst (λ n. Put states states' triple.over (next_state n)) answer put);
+  sent_are = AreMade-more (λ pair. sent_state (outcome_of_pair rules k pair)) triples sent sent' i triple chain within is so_far.sent_are (subst (λ n. Put sent sent' triple.over (sent_state n)) answer put');
   counted = count_more rules k triples before mid now i triple within is so_far.counted count;
 }
 
@@ -168,43 +169,48 @@ pub few_inputs : {S M : Type 0} (rules : Rules S M) (k : ℕ) (triples : List (P
 few_inputs rules k triples i within =
     omega (arith, length-filter-le (λ (x : Piece _). pair_computes rules k x.value) (take i triples), length-take-le i triples within)
 
--- what was made of the triples of a vertex's states and box are its states and what it sends, and the
+-- states that were aligned with an inbox, by an order of notes that is another's
+pub aligned : {S M : Type 0} (cmp order : M → M → Ordering) (pieces : List (Piece S)) (inbox : List (Message M)) (made triples : List (Piece (S × List M))) → cmp ≡ order → triples ≡ made → AreRuns (warped cmp All (value_at pieces) inbox) made → AreRuns (warped order All (value_at pieces) inbox) triples
+aligned cmp order pieces inbox made triples same is runs =
+    subst (λ cmp. AreRuns (warped cmp All (value_at pieces) inbox) triples) same (subst (AreRuns (warped cmp All (value_at pieces) inbox)) (sym is) runs)
+
+-- what was made of the triples of a vertex's states and inbox are its states and what it sends, and the
 -- triples that compute are its inputs
-module _ {S M : Type 0} (rules : Rules S M) (k : ℕ) (pieces : List (Piece S)) (box : List (Message M)) (triples : List (Piece (S × List M))) (runs : AreRuns (warped rules.order All (value_at pieces) box) triples) where
-  pub states-made : (new : List (Piece S)) → AreMade (λ pair. next_state (left_of_pair rules k pair)) triples new → AreRuns (λ t. state_of (left_of rules k pieces box t)) new
+module _ {S M : Type 0} (rules : Rules S M) (k : ℕ) (pieces : List (Piece S)) (inbox : List (Message M)) (triples : List (Piece (S × List M))) (runs : AreRuns (warped rules.order All (value_at pieces) inbox) triples) where
+  pub states-made : (new : List (Piece S)) → AreMade (λ pair. next_state (outcome_of_pair rules k pair)) triples new → AreRuns (λ t. state_of (outcome_of rules k pieces inbox t)) new
   states-made new made = record {
     in_order = made.runs.in_order;
-    values = λ t. made.runs.values t ∙ ap (option_and_then (λ pair. next_state (left_of_pair rules k pair))) (runs.values t) ∙ by (notes_at rules.order box t) (value_at pieces t);
+    values = λ t. made.runs.values t ∙ ap (option_and_then (λ pair. next_state (outcome_of_pair rules k pair))) (runs.values t) ∙ by (notes_at rules.order inbox t) (value_at pieces t);
   }
     where
-      by : (notes : List M) (o : Option S) → option_and_then (λ pair. next_state (left_of_pair rules k pair)) (option_map (λ state. (state, notes)) o) ≡ state_of (left_at rules k o notes)
+      by : (notes : List M) (o : Option S) → option_and_then (λ pair. next_state (outcome_of_pair rules k pair)) (option_map (λ state. (state, notes)) o) ≡ state_of (outcome_at rules k o notes)
       by notes None = refl
       by notes (Some state) = refl
 
-  pub sent-made : (new : List (Piece S)) → AreMade (λ pair. sent_state (left_of_pair rules k pair)) triples new → AreRuns (λ t. sent_of (left_of rules k pieces box t)) new
+  pub sent-made : (new : List (Piece S)) → AreMade (λ pair. sent_state (outcome_of_pair rules k pair)) triples new → AreRuns (λ t. sent_of (outcome_of rules k pieces inbox t)) new
   sent-made new made = record {
     in_order = made.runs.in_order;
-    values = λ t. made.runs.values t ∙ ap (option_and_then (λ pair. sent_state (left_of_pair rules k pair))) (runs.values t) ∙ by (notes_at rules.order box t) (value_at pieces t);
+    values = λ t. made.runs.values t ∙ ap (option_and_then (λ pair. sent_state (outcome_of_pair rules k pair))) (runs.values t) ∙ by (notes_at rules.order inbox t) (value_at pieces t);
   }
     where
-      by : (notes : List M) (o : Option S) → option_and_then (λ pair. sent_state (left_of_pair rules k pair)) (option_map (λ state. (state, notes)) o) ≡ sent_of (left_at rules k o notes)
+      by : (notes : List M) (o : Option S) → option_and_then (λ pair. sent_state (outcome_of_pair rules k pair)) (option_map (λ state. (state, notes)) o) ≡ sent_of (outcome_at rules k o notes)
       by notes None = refl
       by notes (Some state) = refl
 
-  pub inputs-made : AreRuns (input_to rules k pieces box) (inputs_of rules k triples)
+  pub inputs-made : AreRuns (input_to rules k pieces inbox) (inputs_of rules k triples)
   inputs-made = record {
     in_order = IsChain-filter (pair_computes rules k) triples runs.in_order;
-    values = λ t. value_at-filter (pair_computes rules k) triples t runs.in_order ∙ ap (option_and_then (passing (pair_computes rules k))) (runs.values t) ∙ by (notes_at rules.order box t) (value_at pieces t);
+    values = λ t. value_at-filter (pair_computes rules k) triples t runs.in_order ∙ ap (option_and_then (passing (pair_computes rules k))) (runs.values t) ∙ by (notes_at rules.order inbox t) (value_at pieces t);
   }
     where
-      by : (notes : List M) (o : Option S) → option_and_then (passing (pair_computes rules k)) (option_map (λ state. (state, notes)) o) ≡ input_with rules k o notes
+      by : (notes : List M) (o : Option S) → option_and_then (passing (pair_computes rules k)) (option_map (λ state. (state, notes)) o) ≡ input_of rules k o notes
       by notes None = refl
       by notes (Some state) = refl
 
-  pub Calls-made : (before after : ℕ) → after ≡ before + length (inputs_of rules k triples) → Calls rules k pieces box before after
+  pub Calls-made : (before after : ℕ) → after ≡ before + length (inputs_of rules k triples) → Calls rules k pieces inbox before after
   Calls-made before after counted = record { inputs = inputs_of rules k triples; inputs_are = inputs-made; counted = counted }
 
-  pub NoMoreCalls-made : (before after : ℕ) → after ≤ before + length (inputs_of rules k triples) → NoMoreCalls rules k pieces box before after
+  pub NoMoreCalls-made : (before after : ℕ) → after ≤ before + length (inputs_of rules k triples) → NoMoreCalls rules k pieces inbox before after
   NoMoreCalls-made before after at_most = inr (record { inputs = inputs_of rules k triples; inputs_are = inputs-made; at_most = at_most })
 
 -- what follows of a result's value, and of what holds in any case

@@ -15,11 +15,12 @@ use Rattle.graphite_api.specs.Plan.{Plan}
 use Rattle.graphite_api.specs.Supersteps.{after, state_after, sends, sends_in}
 use Rattle.graphite_api.specs.Calls.{is_quiet, supersteps_made, calls_in, calls_made}
 use Rattle.graphite_api.proofs.MadeLemmas.{quiet_from, quiet_at, made-always, made-quiet, made-all, stop_changes_nothing}
-use Rattle.graphite_loop.specs.Sweep.{state_of, sent_of}
-use Rattle.graphite_loop.specs.Superstep.{Standing, list_at, left_in, IsSuperstep}
+use Rattle.graphite_api.specs.Rules.{point_rules, state_of}
+use Rattle.graphite_loop.specs.Sweep.{sent_of}
+use Rattle.graphite_loop.specs.Superstep.{Standing, list_at, outcome_in, IsSuperstep}
 use Rattle.graphite_loop.specs.Run.{AreSteps, is_settled, AllSentBefore, IsRun}
-use Rattle.graphite_loop.specs.Points.{point_rules, instant_of, StandsAfter, IsPointRun}
-use Rattle.graphite_loop.proofs.PointLemmas.{list_at-past, stands_first, after-past, left_is, states_after, stands_next}
+use Rattle.graphite_loop.specs.Points.{instant_of, StandsAfter, IsPointRun}
+use Rattle.graphite_loop.proofs.PointLemmas.{list_at-past, stands_first, after-past, outcome_is, states_after, stands_next}
 use Rattle.graphite_loop.proofs.CallLemmas.{superstep_calls}
 
 -- one number more in a sum over a range
@@ -56,9 +57,9 @@ module _ {S M : Type 0} (order : S → S → Ordering) (plan : Plan S M) (total 
       Rattle.graphite_api.proofs.SuperstepLemmas.after-none plan (instant_of arcs init t) n v (past v t late)
 
   module _ (k : ℕ) (old : Standing S M) (before : StandsAfter plan arcs init k old) (new : Standing S M) (answer : Bool) (calls_old calls_new : ℕ) (step : IsSuperstep (point_rules plan) arcs (suc k) old new answer calls_old calls_new) where
-    sends_is : (v t : ℕ) → is_some (sent_of (left_in (point_rules plan) (suc k) old v t)) ≡ sends_in plan (instant_of arcs init t) (suc k) v
+    sends_is : (v t : ℕ) → is_some (sent_of (outcome_in (point_rules plan) (suc k) old v t)) ≡ sends_in plan (instant_of arcs init t) (suc k) v
     sends_is v t =
-        is_some-sent (left_in (point_rules plan) (suc k) old v t) ∙ ap sends (left_is plan arcs init k old before v t)
+        is_some-sent (outcome_in (point_rules plan) (suc k) old v t) ∙ ap sends (outcome_is plan arcs init k old before v t)
 
     sends_past : (v t : ℕ) → length init ≤ v → sends_in plan (instant_of arcs init t) (suc k) v ≡ false
     sends_past v t h = ap sends (after-past plan arcs init k old before (suc k) v t h)

@@ -5,22 +5,22 @@ use Rattle.std.proofs.lemmas.Bool.{and_parts, and_from, lt-ltb, ltb-true, cases_
 use Rattle.std.proofs.lemmas.List.Elements.{All-nil, All-cons}
 use Rattle.graphite_part.specs.declared.piece.Piece.{Piece}
 use Rattle.graphite_api.specs.Table.{Table}
-use Rattle.graphite_loop.specs.declared.letter.Letter.{Letter}
-use Rattle.graphite_loop.specs.Sweep.{Rules}
+use Rattle.graphite_api.specs.Rules.{Rules}
+use Rattle.graphite_loop.specs.declared.delivery.Delivery.{Delivery}
 use Rattle.graphite_loop.specs.Superstep.{IsSuperstep}
-use Rattle.graphite_loop.specs.Letters.{box_of, standing_of}
+use Rattle.graphite_loop.specs.Deliveries.{inbox_of, standing_of}
 use Rattle.graphite_loop.specs.Progress.{Progress}
 use Rattle.graphite_loop.specs.Run.{IsStart, AreSteps, is_settled, AllSentBefore, IsRun}
 
-empty_boxes : {M : Type 0} (letters : List (Letter M)) (a n v : ℕ) → letters ≡ [] → get_or (map (box_of letters) (range_with_len a n)) v [] ≡ []
-empty_boxes letters a zero zero none = refl
-empty_boxes letters a zero (suc v) none = refl
-empty_boxes letters a (suc n) zero none = ap (λ ls. box_of ls a) none
-empty_boxes letters a (suc n) (suc v) none = empty_boxes letters (a + 1) n v none
+empty_inboxes : {M : Type 0} (deliveries : List (Delivery M)) (a n v : ℕ) → deliveries ≡ [] → get_or (map (inbox_of deliveries) (range_with_len a n)) v [] ≡ []
+empty_inboxes deliveries a zero zero none = refl
+empty_inboxes deliveries a zero (suc v) none = refl
+empty_inboxes deliveries a (suc n) zero none = ap (λ ls. inbox_of ls a) none
+empty_inboxes deliveries a (suc n) (suc v) none = empty_inboxes deliveries (a + 1) n v none
 
--- without letters every box is empty
-pub IsStart-new : {S M : Type 0} (states : List (List (Piece S))) (letters : List (Letter M)) → letters ≡ [] → IsStart states (standing_of states letters)
-IsStart-new states letters none = record { states = refl; boxes = λ v. empty_boxes letters 0 (length states) v none }
+-- without deliveries every inbox is empty
+pub IsStart-new : {S M : Type 0} (states : List (List (Piece S))) (deliveries : List (Delivery M)) → deliveries ≡ [] → IsStart states (standing_of states deliveries)
+IsStart-new states deliveries none = record { states = refl; inboxes = λ v. empty_inboxes deliveries 0 (length states) v none }
 
 -- what a run has come to
 pub record HasRun {S M : Type 0} (rules : Rules S M) (table : Table) (init : List (List (Piece S))) (steps : ℕ) (run : Progress S M) (sends : Bool) (count : ℕ) : Type 0 where

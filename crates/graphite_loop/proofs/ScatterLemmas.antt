@@ -14,8 +14,9 @@ use Rattle.graphite_time.proofs.MeetLemmas.{meet_of-apart}
 use Rattle.graphite_part.specs.declared.piece.Piece.{Piece}
 use Rattle.graphite_part.specs.Pieces.{IsChain}
 use Rattle.graphite_api.specs.declared.arc.Arc.{Arc}
-use Rattle.graphite_loop.specs.Sweep.{Rules, brought_by, brought}
-use Rattle.graphite_loop.specs.Letters.{letter_to, letters_along, LeavesApart}
+use Rattle.graphite_api.specs.Rules.{Rules}
+use Rattle.graphite_loop.specs.Sweep.{brought_by, brought}
+use Rattle.graphite_loop.specs.Deliveries.{delivery_to, deliveries_along, LeavesApart}
 
 module _ {S M : Type 0} (rules : Rules S M) (arc : Arc) where
   none_brought : (pieces : List (Piece S)) → ((k : ℕ) (d : Piece S) → k < length pieces → meet_of (get_or pieces k d).over arc.over ≡ None) → brought rules pieces arc ≡ []
@@ -25,8 +26,8 @@ module _ {S M : Type 0} (rules : Rules S M) (arc : Arc) where
       ∙ ap (λ o. option_to_list (option_and_then (λ over. rules.message piece.value arc over) o) ++ brought rules pieces arc) (apart 0 piece (omega arith))
       ∙ none_brought pieces (λ k d less. apart (suc k) d (omega (arith, less)))
 
-  pub letters_along-within : (pieces kept : List (Piece S)) → LeavesApart pieces kept arc.over → letters_along rules kept arc ≡ letters_along rules pieces arc
-  letters_along-within pieces kept apart =
+  pub deliveries_along-within : (pieces kept : List (Piece S)) → LeavesApart pieces kept arc.over → deliveries_along rules kept arc ≡ deliveries_along rules pieces arc
+  deliveries_along-within pieces kept apart =
       let early = none_brought apart.before (λ k d less. meet_of-apart (get_or apart.before k d).over arc.over (omega (arith, apart.before_ends k d less))) in
       let late = none_brought apart.after (λ k d less. meet_of-apart (get_or apart.after k d).over arc.over (omega (arith, apart.after_starts k d less))) in
       let all : brought rules pieces arc ≡ brought rules kept arc =
@@ -36,7 +37,7 @@ module _ {S M : Type 0} (rules : Rules S M) (arc : Arc) where
       ∙ flat_map-append (brought_by rules arc) kept apart.after
       ∙ ap (λ ms. brought rules kept arc ++ ms) late
       ∙ append-nil (brought rules kept arc) in
-      ap (map (letter_to arc.to)) (sym all)
+      ap (map (delivery_to arc.to)) (sym all)
 
 -- pieces rise by their starts
 starts_rise : {X : Type 0} (pieces : List (Piece X)) → IsChain pieces → (i j : ℕ) (d : Piece X) → i ≤ j → j < length pieces → start_of (get_or pieces i d).over ≤ start_of (get_or pieces j d).over

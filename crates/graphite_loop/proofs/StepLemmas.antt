@@ -21,22 +21,23 @@ use Rattle.graphite_warp.specs.Sorted.{sorted}
 use Rattle.graphite_api.specs.declared.arc.Arc.{Arc}
 use Rattle.graphite_api.specs.ArcOrder.{arc_order}
 use Rattle.graphite_api.specs.Table.{IsTable}
-use Rattle.graphite_loop.specs.declared.letter.Letter.{Letter}
-use Rattle.graphite_loop.specs.Sweep.{Rules, left_at, sent_of}
-use Rattle.graphite_loop.specs.Superstep.{Standing, list_at, group_at, left_in, SomeSends, IsSuperstep}
-use Rattle.graphite_loop.specs.Letters.{message_of, box_of, standing_of, AreRising}
+use Rattle.graphite_api.specs.Rules.{Rules, outcome_at}
+use Rattle.graphite_loop.specs.declared.delivery.Delivery.{Delivery}
+use Rattle.graphite_loop.specs.Sweep.{sent_of}
+use Rattle.graphite_loop.specs.Superstep.{Standing, list_at, group_at, outcome_in, SomeSends, IsSuperstep}
+use Rattle.graphite_loop.specs.Deliveries.{message_of, inbox_of, standing_of, AreRising}
 use Rattle.graphite_loop.specs.Progress.{IsReady}
 use Rattle.graphite_loop.specs.Vertex.{has_pieces}
 use Rattle.graphite_loop.specs.Walk.{IsWalked, IsGivenUp}
-use Rattle.graphite_loop.proofs.WalkLemmas.{list_at-boxes}
+use Rattle.graphite_loop.proofs.WalkLemmas.{list_at-inboxes}
 use Rattle.graphite_loop.proofs.SendLemmas.{all_delivered}
 
--- letters by the number of the vertex that they come to
-pub rising_from : {M : Type 0} (from : ℕ) (letters : List (Letter M)) → ((k : ℕ) (d : Letter M) → k < length letters → from ≤ (get_or letters k d).to) → IsNonDecreasingBy (λ letter. letter.to) letters → AreRising from letters
+-- deliveries by the number of the vertex that they come to
+pub rising_from : {M : Type 0} (from : ℕ) (deliveries : List (Delivery M)) → ((k : ℕ) (d : Delivery M) → k < length deliveries → from ≤ (get_or deliveries k d).to) → IsNonDecreasingBy (λ delivery. delivery.to) deliveries → AreRising from deliveries
 rising_from from [] first rise = tt
-rising_from from (letter ∷ letters) first rise = (
-  first 0 letter (omega arith),
-  rising_from letter.to letters (λ k d within. rise 0 (suc k) d (omega arith) (omega (arith, within))) (λ i j d le within. rise (suc i) (suc j) d (omega (arith, le)) (omega (arith, within))),
+rising_from from (delivery ∷ deliveries) first rise = (
+  first 0 delivery (omega arith),
+  rising_from delivery.to deliveries (λ k d within. rise 0 (suc k) d (omega arith) (omega (arith, within))) (λ i j d le within. rise (suc i) (suc j) d (omega (arith, le)) (omega (arith, within))),
 )
 
 -- a piece gives a value at its start
@@ -54,7 +55,7 @@ pub record AreOrdered (arcs : List Arc) (vertices : ℕ) : Type 0 where
   pub in_order : sorted arc_order arcs ≡ arcs
   pub sources : (k : ℕ) (d : Arc) → k < length arcs → (get_or arcs k d).from < vertices
 
-module _ {S M : Type 0} (rules : Rules S M) (arcs : List Arc) (k : ℕ) (old : Standing S M) (states : List (List (Piece S))) (letters : List (Letter M)) (sends : Bool) (before now : ℕ) (walked : IsWalked rules arcs k old (length old.states) states letters sends before now) where
+module _ {S M : Type 0} (rules : Rules S M) (arcs : List Arc) (k : ℕ) (old : Standing S M) (states : List (List (Piece S))) (deliveries : List (Delivery M)) (sends : Bool) (before now : ℕ) (walked : IsWalked rules arcs k old (length old.states) states deliveries sends before now) where
   -- where a vertex sends, the answer is yes, and where it is, a vertex sends
   some_sends : IsTrue sends → SomeSends rules k old
   some_sends sent =
@@ -73,15 +74,15 @@ module _ {S M : Type 0} (rules : Rules S M) (arcs : List Arc) (k : ℕ) (old : S
       walked.sends_is ∙ list_any_at has_pieces walked.sent some.0 [] (omega (arith, within, walked.sent_len)) there)
       (λ (past : length old.states ≤ some.0).
       let none : list_at old.states some.0 ≡ [] = get_or-eq_default old.states [] past in
-      let nothing : sent_of (left_in rules k old some.0 some.1) ≡ None = ap (λ ps. sent_of (left_at rules k (value_at ps some.1) (group_at rules old some.0 some.1))) none in
+      let nothing : sent_of (outcome_in rules k old some.0 some.1) ≡ None = ap (λ ps. sent_of (outcome_at rules k (value_at ps some.1) (group_at rules old some.0 some.1))) none in
       absurd (true_is_not (sym some.2 ∙ ap is_some nothing)))
       (cases_lt some.0 (length old.states))
     where
       true_is_not : true ≡ false → ⊥
       true_is_not e = cc
 
-  pub IsSuperstep-made : (letters' : List (Letter M)) → ((w : ℕ) → box_of letters' w ≡ box_of letters w) → AreOrdered arcs (length old.states) → IsSuperstep rules arcs k old (standing_of states letters') sends before now
-  IsSuperstep-made letters' same table = record {
+  pub IsSuperstep-made : (deliveries' : List (Delivery M)) → ((w : ℕ) → inbox_of deliveries' w ≡ inbox_of deliveries w) → AreOrdered arcs (length old.states) → IsSuperstep rules arcs k old (standing_of states deliveries') sends before now
+  IsSuperstep-made deliveries' same table = record {
     sent = walked.sent;
     inputs = walked.inputs;
     states_len = walked.states_len;
@@ -90,15 +91,15 @@ module _ {S M : Type 0} (rules : Rules S M) (arcs : List Arc) (k : ℕ) (old : S
     states_are = walked.states_are;
     sent_are = walked.sent_are;
     inputs_are = walked.inputs_are;
-    boxes_are = λ v within.
-        list_at-boxes (length states) letters' v (omega (arith, within, walked.states_len)) ∙ same v ∙ ap (λ ls. box_of ls v) walked.letters_are
+    inboxes_are = λ v within.
+        list_at-inboxes (length states) deliveries' v (omega (arith, within, walked.states_len)) ∙ same v ∙ ap (λ ls. inbox_of ls v) walked.deliveries_are
         ∙ all_delivered rules arcs walked.sent v table.in_order (λ j d less. omega (arith, table.sources j d less, walked.sent_len));
     answers = (some_sends, is_sent);
     counted = walked.counted;
   }
 
-  pub IsReady-made : (vertices : ℕ) (letters' : List (Letter M)) → length old.states ≡ vertices → AreRising 0 letters' → IsReady vertices states letters'
-  IsReady-made vertices letters' len rising = record {
+  pub IsReady-made : (vertices : ℕ) (deliveries' : List (Delivery M)) → length old.states ≡ vertices → AreRising 0 deliveries' → IsReady vertices states deliveries'
+  IsReady-made vertices deliveries' len rising = record {
     len = walked.states_len ∙ len;
     chains = λ j d within. subst IsChain (get_or_default states j [] d within) (walked.states_are j (omega (arith, within, walked.states_len))).in_order;
     rising = rising;
@@ -116,17 +117,17 @@ module _ {S M : Type 0} (rules : Rules S M) (arcs : List Arc) (k : ℕ) (old : S
 pub stable_from : {X : Type 0} (n : X → ℕ) {F : Type 0} {g : Mut F (Bor X × Unit {0}) ℕ} {f : F} (xs ys : List X) → IsStableByKeyClosure g nat_cmp f xs ys → ((a : Bor X × Unit {0}) (r : ℕ) (f' : F) → Called g f a r f' → (r ≡ n a.0.now) × (f' ≡ f)) → IsStableByKey n nat_cmp xs ys
 stable_from n {F} {g} {f} xs ys stable h = stable n (always_returns_same g (λ a r. r ≡ n a.0.now) f h)
 
--- letters that tie go to one vertex
+-- deliveries that tie go to one vertex
 tie_is : (a b : ℕ) → (not (is_lt (nat_cmp a b)) && not (is_lt (nat_cmp b a))) ≡ (b == a)
 tie_is a b = grind (arith, nat_tests)
 
--- a stable sort by the vertex leaves every box as it was
-pub boxes_stay : {M : Type 0} (xs ys : List (Letter M)) → length ys ≡ length xs → IsStableByKey (λ letter. letter.to) nat_cmp xs ys → (w : ℕ) → box_of ys w ≡ box_of xs w
-boxes_stay [] [] len stable w = refl
-boxes_stay [] (y ∷ ys) len stable w = absurd (omega (arith, len))
-boxes_stay {M} (x ∷ xs) ys len stable w =
-    let key : Letter M = record x { to = w } in
-    let same : (letter : Letter M) → ties (λ a b. is_lt (nat_cmp a.to b.to)) key letter ≡ (letter.to == w) = λ letter. tie_is w letter.to in
+-- a stable sort by the vertex leaves every inbox as it was
+pub inboxes_stay : {M : Type 0} (xs ys : List (Delivery M)) → length ys ≡ length xs → IsStableByKey (λ delivery. delivery.to) nat_cmp xs ys → (w : ℕ) → inbox_of ys w ≡ inbox_of xs w
+inboxes_stay [] [] len stable w = refl
+inboxes_stay [] (y ∷ ys) len stable w = absurd (omega (arith, len))
+inboxes_stay {M} (x ∷ xs) ys len stable w =
+    let key : Delivery M = record x { to = w } in
+    let same : (delivery : Delivery M) → ties (λ a b. is_lt (nat_cmp a.to b.to)) key delivery ≡ (delivery.to == w) = λ delivery. tie_is w delivery.to in
     let tests = fun_ext same in
     ap (map message_of) (sym (ap (λ p. filter p ys) tests) ∙ stable key ∙ ap (λ p. filter p (x ∷ xs)) tests)
 

@@ -1,5 +1,5 @@
 -- The same of a program and of a table: of its lives and arcs, and of the states to start with.
-use Rattle.std.proofs.Common.{◌≡◌, ◌∙◌, ap, refl, subst, ℕ, ◌<◌, ◌≤◌, ◌||◌, Bool, true, false, cond, List, [], ◌∷◌, map, length, Option, Some, None, IsSome, IsTrue, option_map, arith, ⊎_elim}
+use Rattle.std.proofs.Common.{◌≡◌, ◌∙◌, ap, refl, subst, ℕ, ◌<◌, ◌≤◌, ◌||◌, Bool, true, false, cond, List, [], ◌∷◌, map, length, Option, Some, None, IsSome, IsTrue, arith, ⊎_elim}
 use Rattle.std.specs.Prelude.{◌↔◌}
 use mathlib.Core.Path.{fun_ext}
 use Rattle.std.specs.Cmp.{IsTotalOrder}
@@ -13,12 +13,12 @@ use Rattle.graphite_part.specs.Plain.{IsExact}
 use Rattle.graphite_part.specs.declared.piece.Piece.{Piece}
 use Rattle.graphite_part.specs.Pieces.{value_at}
 use Rattle.graphite_api.specs.declared.arc.Arc.{Arc}
-use Rattle.graphite_api.specs.Plan.{Plan, message_over}
+use Rattle.graphite_api.specs.Plan.{Plan}
 use Rattle.graphite_api.specs.Snapshot.{link_of, arcs_at, snapshot_at}
 use Rattle.graphite_api.specs.Table.{life_of, vertex_is_alive}
-use Rattle.graphite_loop.specs.Sweep.{Rules}
+use Rattle.graphite_api.specs.Rules.{Rules, point_rules}
 use Rattle.graphite_loop.specs.Run.{IsRun}
-use Rattle.graphite_loop.specs.Points.{point_rules, instant_of, initial_at, EndBy, IsPointRun}
+use Rattle.graphite_loop.specs.Points.{instant_of, initial_at, EndBy, IsPointRun}
 use Rattle.graphite_loop.specs.Progress.{AreInitial}
 use Rattle.graphite_loop.proofs.PointLemmas.{list_at-past}
 use Rattle.graphite_loop.proofs.PointRunLemmas.{is_point_run}
@@ -57,20 +57,6 @@ module _ {S : Type 0} (lives : List (List Interval)) (arcs : List Arc) (init : L
   no_start : (horizon : ℕ) → EndBy horizon lives → (v t : ℕ) → horizon ≤ t → initial_at init v t ≡ None
   no_start horizon ends v t late =
       start_is v t ∙ ap (λ b. cond b (initial_at init v t) None) (ends v t late)
-
--- what a program of snapshots answers is what its plan says
-pub rules_are : {S M : Type 0} (rules : Rules S M) (plan : Plan S M)
-    → ((k : ℕ) (state : S) (group : List M) → rules.next k state group ≡ plan.next k state group)
-    → ((state : S) (arc : Arc) (over : Interval) → rules.message state arc over ≡ option_map (message_over over) (plan.note state arc.time arc.cost))
-    → ((x y : M) → rules.order x y ≡ plan.order x y)
-    → rules.always ≡ plan.always
-    → rules ≡ point_rules plan
-rules_are rules plan next message order always = λ i. record {
-  next = λ k state group. next k state group i;
-  message = λ state arc over. message state arc over i;
-  order = λ x y. order x y i;
-  always = always i;
-}
 
 -- a run of such a program on a table
 pub run_on_table : {S M : Type 0} (order : S → S → Ordering) (rules : Rules S M) (plan : Plan S M)

@@ -1,4 +1,4 @@
-pub mod Letters
+pub mod Deliveries
 pub mod Points
 pub mod Progress
 pub mod Run

@@ -1,26 +1,17 @@
 -- Programs of snapshots, which see one instant at a time, over all instants at once.
-use Rattle.std.specs.Prelude.{◌≡◌, ℕ, suc, ◌<◌, ◌≤◌, Bool, false, List, length, map, Option, option_map}
+use Rattle.std.specs.Prelude.{◌≡◌, ℕ, zero, ◌<◌, ◌≤◌, Bool, false, List, length, map, Option}
 use Rattle.std.specs.declared.cmp.Ordering.{Ordering}
 use Rattle.graphite_time.specs.declared.interval.Interval.{Interval}
 use Rattle.graphite_part.specs.declared.piece.Piece.{Piece}
 use Rattle.graphite_part.specs.Pieces.{value_at, AreRuns}
 use Rattle.graphite_api.specs.declared.arc.Arc.{Arc}
-use Rattle.graphite_api.specs.Plan.{Plan, message_over}
-use Rattle.graphite_api.specs.Snapshot.{Snapshot, link_of, arcs_at}
-use Rattle.graphite_api.specs.Supersteps.{state_after, group_in}
+use Rattle.graphite_api.specs.Plan.{Plan}
+use Rattle.graphite_api.specs.Snapshot.{Link, Snapshot, link_of, arcs_at}
+use Rattle.graphite_api.specs.Supersteps.{groups_on, going_on, no_groups, state_after}
 use Rattle.graphite_api.specs.Calls.{is_quiet, supersteps_made, calls_made}
 use Rattle.graphite_api.specs.Table.{vertex_is_alive}
-use Rattle.graphite_loop.specs.Sweep.{Rules}
+use Rattle.graphite_api.specs.Rules.{point_rules, state_of}
 use Rattle.graphite_loop.specs.Superstep.{Standing, list_at, state_at, group_at}
-
--- what a program of snapshots answers: its notes hold exactly the instants over which they are told
-abbrev pub point_rules : {S M : Type 0} → Plan S M → Rules S M
-point_rules plan = record {
-  next = plan.next;
-  message = λ state arc over. option_map (message_over over) (plan.note state arc.time arc.cost);
-  order = plan.order;
-  always = plan.always;
-}
 
 -- the graph at an instant: the vertices that have a state to start with then, and the arcs that hold it
 abbrev pub instant_of : {S : Type 0} → List Arc → List (List (Piece S)) → ℕ → Snapshot S
@@ -29,12 +20,21 @@ instant_of arcs init t = record {
   links = map link_of (arcs_at arcs t);
 }
 
--- What stands is at every instant what k supersteps leave on that instant's graph: each vertex's state,
--- and the group that it is told for the next superstep.
-pub record StandsAfter {S M : Type 0} (plan : Plan S M) (arcs : List Arc) (init : List (List (Piece S))) (k : ℕ) (now : Standing S M) : Type 0 where
-  pub states_len : length now.states ≡ length init
-  pub states_are : (v t : ℕ) → state_at now v t ≡ state_after plan (instant_of arcs init t) k v
-  pub groups_are : (v t : ℕ) → v < length init → group_at (point_rules plan) now v t ≡ group_in plan (instant_of arcs init t) (suc k) v
+-- What stands is at every instant what n supersteps leave on that instant's graph which go on after k of them,
+-- from these states and groups: each vertex's state, and the group that it is told for the next superstep.
+pub record StandsOn {S M : Type 0} (plan : Plan S M) (links : ℕ → List Link) (k : ℕ) (states : ℕ → ℕ → Option S) (groups : ℕ → ℕ → List M) (vertices n : ℕ) (now : Standing S M) : Type 0 where
+  pub states_len : length now.states ≡ vertices
+  pub states_are : (v t : ℕ) → state_at now v t ≡ state_of (going_on plan (links t) k (states t) (groups t) n v)
+  pub groups_are : (v t : ℕ) → v < vertices → group_at (point_rules plan) now v t ≡ groups_on plan (links t) (groups t) n (going_on plan (links t) k (states t) (groups t) n) v
+
+-- the links of the arcs that hold an instant
+abbrev pub links_of : List Arc → ℕ → List Link
+links_of arcs t = map link_of (arcs_at arcs t)
+
+-- what stands after k supersteps from the start
+abbrev pub StandsAfter : {S M : Type 0} → Plan S M → List Arc → List (List (Piece S)) → ℕ → Standing S M → Type 0
+StandsAfter plan arcs init k now =
+    StandsOn plan (links_of arcs) zero (λ t. (instant_of arcs init t).start) (λ t. no_groups) (length init) k now
 
 -- the states to start with, instant by instant
 abbrev pub initial_at : {S : Type 0} → List (List (Piece S)) → ℕ → ℕ → Option S

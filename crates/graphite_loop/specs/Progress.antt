@@ -4,9 +4,9 @@ use Rattle.graphite_part.specs.declared.piece.Piece.{Piece}
 use Rattle.graphite_time.specs.declared.interval.Interval.{Interval}
 use Rattle.graphite_part.specs.Pieces.{value_at, IsChain}
 use Rattle.graphite_api.specs.Table.{Table, vertex_is_alive}
-use Rattle.graphite_loop.specs.declared.letter.Letter.{Letter}
+use Rattle.graphite_loop.specs.declared.delivery.Delivery.{Delivery}
 use Rattle.graphite_loop.specs.Superstep.{Standing, list_at}
-use Rattle.graphite_loop.specs.Letters.{AreRising}
+use Rattle.graphite_loop.specs.Deliveries.{AreRising}
 
 -- the lives and arcs that a run goes over, what stands after the supersteps made, how many those are,
 -- and whether a superstep found no memory
@@ -21,9 +21,9 @@ pub record AreInitial {S : Type 0} (lives : List (List Interval)) (init : List (
   pub len : length init ≡ length lives
   pub alive : (v t : ℕ) → v < length lives → IsSome (value_at (list_at init v) t) ↔ IsTrue (vertex_is_alive lives v t)
 
--- what a superstep goes from: a partition for each of so many vertices, and letters to them, in the
+-- what a superstep goes from: a partition for each of so many vertices, and deliveries to them, in the
 -- order of the vertices
-pub record IsReady {S M : Type 0} (vertices : ℕ) (states : List (List (Piece S))) (letters : List (Letter M)) : Type 0 where
+pub record IsReady {S M : Type 0} (vertices : ℕ) (states : List (List (Piece S))) (deliveries : List (Delivery M)) : Type 0 where
   pub len : length states ≡ vertices
   pub chains : All IsChain states
-  pub rising : AreRising 0 letters
+  pub rising : AreRising 0 deliveries

@@ -2,15 +2,15 @@
 use Rattle.std.specs.Prelude.{◌≡◌, ℕ, ◌+◌, ◌<◌, ◌≤◌, Bool, true, false, not, List, [], ◌∷◌, length, All}
 use Rattle.graphite_part.specs.declared.piece.Piece.{Piece}
 use Rattle.graphite_api.specs.declared.arc.Arc.{Arc}
-use Rattle.graphite_loop.specs.Sweep.{Rules}
+use Rattle.graphite_api.specs.Rules.{Rules}
 use Rattle.graphite_loop.specs.Superstep.{Standing, list_at, IsSuperstep}
 
 -- before the first superstep: the states to start with, and no messages
 pub record IsStart {S M : Type 0} (init : List (List (Piece S))) (now : Standing S M) : Type 0 where
   pub states : now.states ≡ init
-  pub boxes : (v : ℕ) → list_at now.boxes v ≡ []
+  pub inboxes : (v : ℕ) → list_at now.inboxes v ≡ []
 
--- Supersteps from these states on, each on what the one before it left, counted from 1: what they
+-- Supersteps from these states on, each on what the one before it outcome, counted from 1: what they
 -- answered, the last one first; what stands after them; and the calls made in them.
 abbrev pub AreSteps : {S M : Type 0} → Rules S M → List Arc → List (List (Piece S)) → List Bool → Standing S M → ℕ → Type 0
 AreSteps rules arcs init [] now calls = IsStart init now × (calls ≡ 0)

@@ -2,7 +2,7 @@
 //! which its state and the notes that it is told are the same.
 #![tactic(auto)]
 
-mod letter;
+mod delivery;
 mod points;
 mod run;
 mod scatter;
@@ -10,7 +10,7 @@ mod steps;
 mod vertex;
 mod walk;
 
-pub use letter::Letter;
+pub use delivery::Delivery;
 pub use points::run_points;
 pub use run::Run;
 pub use steps::{Ran, run_steps};

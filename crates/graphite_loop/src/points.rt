@@ -1,15 +1,17 @@
+//! Runs of programs that see one instant at a time.
 ghost use Rattle.std.specs.Prelude.{◌≡◌, ◌≤◌, ℕ, IfOk, length};
+ghost use Rattle.graphite_api.specs.declared.TheConstants.{STEP_LIMIT};
 ghost use Rattle.graphite_api.specs.Snapshot.{snapshot_at};
 ghost use Rattle.graphite_loop.specs.Points.{initial_at, EndBy, IsPointRun};
 ghost use Rattle.graphite_loop.specs.Progress.{AreInitial};
 
 use crate::{Ran, run_steps};
-use graphite_api::{ArcTable, PointProgram};
+use graphite_api::{ArcTable, PointProgram, STEP_LIMIT};
 use graphite_part::Partition;
 use graphite_time::NoMemory;
 use std::alloc::Global;
 
-/// Runs a program of snapshots with at most `steps` supersteps, of which there are 1 to 2,097,152.
+/// Runs a program of snapshots with at most `steps` supersteps, of which there are 1 to [`STEP_LIMIT`].
 /// At every instant each vertex has the state that all of these supersteps leave on the graph of that
 /// instant: the vertices alive then and the arcs that hold it. Only those supersteps are made up to
 /// the first in which no vertex sends at any instant, but all of them where every vertex always
@@ -25,7 +27,7 @@ pub fn run_points<P: PointProgram>(
 ) -> Result<Ran<P::State>, NoMemory>
     requires init { AreInitial table.now.lives init.items }
     requires some { 1 ≤ steps }
-    requires few { steps ≤ 2097152 }
+    requires few { steps ≤ STEP_LIMIT }
     requires fresh { P.count program.old ≡ 0 }
     ensures run { IfOk result (λ ran. (horizon : ℕ) → EndBy horizon table.now.lives
         → IsPointRun P.State.cmp P.plan

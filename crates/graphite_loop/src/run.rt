@@ -1,15 +1,16 @@
+//! A run of supersteps, made one at a time.
 ghost use Rattle.std.specs.Prelude.{◌≡◌, ◌+◌, ◌^◌, ◌<◌, ◌≤◌, [], true, false, All, IfOk, IsOk, IsErr, OnOk, OnErr, length};
 ghost use Rattle.graphite_part.specs.Pieces.{IsChain};
-ghost use Rattle.graphite_loop.specs.Letters.{standing_of};
+ghost use Rattle.graphite_api.specs.declared.TheConstants.{STEP_LIMIT};
+ghost use Rattle.graphite_loop.specs.Deliveries.{standing_of};
 ghost use Rattle.graphite_loop.specs.Progress.{AreInitial};
 ghost use Rattle.graphite_loop.specs.Run.{IsStart};
 ghost use Rattle.graphite_loop.specs.Superstep.{IsSuperstep};
-ghost use Rattle.graphite_loop.specs.Vertex.{rules_of};
 ghost use Rattle.graphite_loop.specs.Walk.{IsGivenUp};
 
-use crate::Letter;
+use crate::Delivery;
 use crate::walk::make_superstep;
-use graphite_api::{ArcTable, Program};
+use graphite_api::{ArcTable, Program, STEP_LIMIT};
 use graphite_part::{Partition, Plain};
 use graphite_time::NoMemory;
 use std::alloc::Global;
@@ -23,7 +24,7 @@ pub struct Run<'t, P: Program> {
     table: &'t ArcTable,
     states: Vec<Partition<P::State>>,
     // the messages that are read in the next superstep, in the order of the vertices
-    letters: Vec<Letter<P::Note>>,
+    deliveries: Vec<Delivery<P::Note>>,
     made: u32,
     refused: bool,
 }
@@ -31,19 +32,19 @@ pub struct Run<'t, P: Program> {
 impl<'t, P: Program> Model for Run<'t, P> {
     ghost use Rattle.std.specs.Prelude.{◌≡◌, false, length};
     ghost use Rattle.graphite_loop.specs.Progress.{Progress, IsReady};
-    ghost use Rattle.graphite_loop.specs.Letters.{standing_of};
+    ghost use Rattle.graphite_loop.specs.Deliveries.{standing_of};
 
     ghost Value = { Progress P.State P.Note };
 
     ghost view = { λ run. record {
       table = run.table.now;
-      standing = standing_of run.states.items run.letters.items;
+      standing = standing_of run.states.items run.deliveries.items;
       made = run.made;
       refused = run.refused;
     } };
 
     ghost invariant = { λ run. run.refused ≡ false
-        → IsReady (length run.table.now.lives) run.states.items run.letters.items };
+        → IsReady (length run.table.now.lives) run.states.items run.deliveries.items };
 }
 
 impl<'t, P: Program> Run<'t, P> {
@@ -65,30 +66,31 @@ impl<'t, P: Program> Run<'t, P> {
             alloc,
             table,
             states: init,
-            letters: Vec::new(alloc),
+            deliveries: Vec::new(alloc),
             made: 0,
             refused: false,
         })
     }
 
-    /// Makes the next superstep: fewer than 2,097,152 were made, and the count of calls is below
+    /// Makes the next superstep: fewer than [`STEP_LIMIT`] were made, and the count of calls is below
     /// 2^127. The answer says whether a vertex sends at some instant. After [`NoMemory`] this run
-    /// answers so from then on, and calls the program no more.
+    /// answers so from then on, and calls the program no more; the number of supersteps made stays.
     pub fn superstep(&mut self, program: &mut P) -> Result<bool, NoMemory>
-        requires made { self.old.made < 2097152 }
+        requires made { self.old.made < STEP_LIMIT }
         requires room { P.count program.old < 2 ^ 127 }
         ensures step { IfOk result (λ sends. IsSuperstep
-            (rules_of P.next_of P.message_of P.Note.cmp P.ALWAYS) self.old.table.arcs
+            P.rules self.old.table.arcs
             (self.old.made + 1) self.old.standing self.new.standing sends
             (P.count program.old) (P.count program.new)) }
         ensures made { OnOk result (self.new.made ≡ self.old.made + 1) }
+        ensures not_made { OnErr result (self.new.made ≡ self.old.made) }
         ensures ok { OnOk result (self.new.refused ≡ false) }
         ensures err { OnErr result (self.new.refused ≡ true) }
         ensures table { self.new.table ≡ self.old.table }
         ensures again { self.old.refused ≡ true → IsErr result }
         ensures no_call { self.old.refused ≡ true → P.count program.new ≡ P.count program.old }
         ensures given_up { OnErr result (IsGivenUp
-            (rules_of P.next_of P.message_of P.Note.cmp P.ALWAYS) (self.old.made + 1)
+            P.rules (self.old.made + 1)
             self.old.standing (P.count program.old) (P.count program.new)) }
         ensures few { P.count program.new ≤ P.count program.old + 2 ^ 96 }
     {
@@ -98,11 +100,11 @@ impl<'t, P: Program> Run<'t, P> {
         // until the superstep is made
         self.refused = true;
         let states = mem::replace(&mut self.states, Vec::new(self.alloc));
-        let letters = mem::replace(&mut self.letters, Vec::new(self.alloc));
+        let deliveries = mem::replace(&mut self.deliveries, Vec::new(self.alloc));
         let step = self.made + 1;
-        let made = make_superstep(self.alloc, self.table, program, step, states, letters)?;
+        let made = make_superstep(self.alloc, self.table, program, step, states, deliveries)?;
         self.states = made.states;
-        self.letters = made.letters;
+        self.deliveries = made.deliveries;
         self.made = step;
         self.refused = false;
         Ok(made.sends)

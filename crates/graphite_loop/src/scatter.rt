@@ -2,10 +2,9 @@
 ghost use Rattle.std.specs.Prelude.{◌≡◌, ◌++◌, OnOk};
 ghost use Rattle.std.specs.List.{flat_map};
 ghost use Rattle.graphite_part.specs.Pieces.{IsChain};
-ghost use Rattle.graphite_loop.specs.Letters.{message_by, letters_along, LeavesApart};
-ghost use Rattle.graphite_loop.specs.Vertex.{rules_of};
+ghost use Rattle.graphite_loop.specs.Deliveries.{message_by, deliveries_along, LeavesApart};
 
-use crate::Letter;
+use crate::Delivery;
 use graphite_api::{Arc, Message, Program};
 use graphite_part::{Piece, Plain};
 use graphite_time::{Interval, NoMemory};
@@ -15,11 +14,11 @@ pub(crate) fn scatter<P: Program>(
     program: &P,
     arcs: &[Arc],
     sent: &[Piece<P::State>],
-    out: &mut Vec<Letter<P::Note>>,
+    out: &mut Vec<Delivery<P::Note>>,
 ) -> Result<(), NoMemory>
     requires { IsChain sent.now }
-    ensures { OnOk result (out.new.items ≡ out.old.items ++ flat_map (λ arc. letters_along
-        (rules_of P.next_of P.message_of P.Note.cmp P.ALWAYS) sent.now arc) arcs.now) }
+    ensures { OnOk result (out.new.items ≡ out.old.items ++ flat_map (λ arc. deliveries_along
+        P.rules sent.now arc) arcs.now) }
 {
     for arc in arcs {
         scatter_along(program, arc, pieces_within(sent, arc.over), out)?;
@@ -46,14 +45,14 @@ fn scatter_along<P: Program>(
     program: &P,
     arc: &Arc,
     sent: &[Piece<P::State>],
-    out: &mut Vec<Letter<P::Note>>,
+    out: &mut Vec<Delivery<P::Note>>,
 ) -> Result<(), NoMemory>
-    ensures { OnOk result (out.new.items ≡ out.old.items ++ letters_along
-        (rules_of P.next_of P.message_of P.Note.cmp P.ALWAYS) sent.now arc.now) }
+    ensures { OnOk result (out.new.items ≡ out.old.items ++ deliveries_along
+        P.rules sent.now arc.now) }
 {
     for piece in sent {
         if let Some(message) = told(program, arc, piece) {
-            out.push(Letter {
+            out.push(Delivery {
                 to: arc.to,
                 message,
             })?;
@@ -64,7 +63,7 @@ fn scatter_along<P: Program>(
 
 /// What a piece of a sent state tells along an arc, over the instants that both hold.
 fn told<P: Program>(program: &P, arc: &Arc, piece: &Piece<P::State>) -> Option<Message<P::Note>>
-    ensures { result ≡ message_by (rules_of P.next_of P.message_of P.Note.cmp P.ALWAYS)
+    ensures { result ≡ message_by P.rules
         arc.now piece.now }
 {
     let over = piece.over.meet(arc.over)?;

@@ -1,10 +1,11 @@
+//! Supersteps one after the other, up to the last one that is made.
 ghost use Rattle.std.specs.Prelude.{◌≡◌, ◌≤◌, ◌&&◌, ◌||◌, nat_lt, IfOk};
+ghost use Rattle.graphite_api.specs.declared.TheConstants.{STEP_LIMIT};
 ghost use Rattle.graphite_loop.specs.Progress.{AreInitial};
 ghost use Rattle.graphite_loop.specs.Run.{IsRun};
-ghost use Rattle.graphite_loop.specs.Vertex.{rules_of};
 
 use crate::Run;
-use graphite_api::{ArcTable, Program};
+use graphite_api::{ArcTable, Program, STEP_LIMIT};
 use graphite_part::{Partition, Plain};
 use graphite_time::NoMemory;
 use std::alloc::Global;
@@ -22,7 +23,7 @@ pub struct Ran<S: Plain> {
     pub calls: u128,
 }
 
-/// Makes at most `steps` supersteps, of which there are 1 to 2,097,152: all of them where every
+/// Makes at most `steps` supersteps, of which there are 1 to [`STEP_LIMIT`]: all of them where every
 /// vertex always computes; else up to the first in which no vertex sends at any instant. `init` has a
 /// partition for each vertex, over exactly its life, and the program's count of calls is 0.
 pub fn run_steps<P: Program>(
@@ -34,9 +35,9 @@ pub fn run_steps<P: Program>(
 ) -> Result<Ran<P::State>, NoMemory>
     requires init { AreInitial table.now.lives init.items }
     requires some { 1 ≤ steps }
-    requires few { steps ≤ 2097152 }
+    requires few { steps ≤ STEP_LIMIT }
     requires fresh { P.count program.old ≡ 0 }
-    ensures run { IfOk result (λ ran. IsRun (rules_of P.next_of P.message_of P.Note.cmp P.ALWAYS)
+    ensures run { IfOk result (λ ran. IsRun P.rules
         table.now.arcs init.items steps ran.states.items ran.made ran.settled ran.calls) }
     ensures calls { IfOk result (λ ran. ran.calls ≡ P.count program.new) }
 {
@@ -56,7 +57,7 @@ pub fn run_steps<P: Program>(
 
 /// Whether one more superstep is to be made.
 fn goes_on<P: Program>(made: u32, steps: u32, sends: bool) -> bool
-    ensures { result ≡ nat_lt made steps && (sends || P.ALWAYS) }
+    ensures { result ≡ nat_lt made steps && (sends || P.rules.always) }
 {
     made < steps && (sends || P::ALWAYS)
 }

@@ -2,8 +2,9 @@
 ghost use Rattle.std.specs.Prelude.{◌≡◌, ◌+◌, ◌^◌, ◌<◌, ◌≤◌, if◌then◌else◌, length, IfOk, OnOk, OnErr};
 ghost use Rattle.graphite_time.specs.Interval.{start_of};
 ghost use Rattle.graphite_part.specs.Pieces.{IsChain, AreRuns, last_end};
-ghost use Rattle.graphite_loop.specs.Sweep.{computes, left_with, state_of, sent_of};
-ghost use Rattle.graphite_loop.specs.Vertex.{rules_of, left_of, left_of_pair, next_state, sent_state, inputs_of, Put, AreMade, Calls, NoMoreCalls};
+ghost use Rattle.graphite_api.specs.Rules.{computes, outcome_with, state_of};
+ghost use Rattle.graphite_loop.specs.Sweep.{sent_of};
+ghost use Rattle.graphite_loop.specs.Vertex.{outcome_of, outcome_of_pair, next_state, sent_state, inputs_of, Put, AreMade, Calls, NoMoreCalls};
 
 use graphite_api::{Message, Next, Program};
 use graphite_part::{Partition, Plain};
@@ -11,9 +12,9 @@ use graphite_time::{Interval, NoMemory};
 use graphite_warp::{Touch, Triple, warp};
 use std::alloc::Global;
 
-/// What a superstep leaves of a vertex: its states, and those of them that it sends.
+/// The outcome of a superstep for a vertex: its states, and those of them that it sends.
 #[derive(Drop)]
-pub(crate) struct Left<S: Plain> {
+pub(crate) struct Outcome<S: Plain> {
     pub states: Partition<S>,
     pub sent: Partition<S>,
 }
@@ -25,18 +26,18 @@ pub(crate) fn compute_vertex<P: Program>(
     step: u32,
     states: &Partition<P::State>,
     messages: &[Message<P::Note>],
-) -> Result<Left<P::State>, NoMemory>
+) -> Result<Outcome<P::State>, NoMemory>
     requires step { 1 ≤ step }
     requires room { P.count program.old + 2 ^ 64 < 2 ^ 128 }
-    ensures states { IfOk result (λ left. AreRuns (λ t. state_of (left_of
-        (rules_of P.next_of P.message_of P.Note.cmp P.ALWAYS) step states.now messages.now t)) left.states) }
-    ensures sent { IfOk result (λ left. AreRuns (λ t. sent_of (left_of
-        (rules_of P.next_of P.message_of P.Note.cmp P.ALWAYS) step states.now messages.now t)) left.sent) }
+    ensures states { IfOk result (λ outcome. AreRuns (λ t. state_of (outcome_of
+        P.rules step states.now messages.now t)) outcome.states) }
+    ensures sent { IfOk result (λ outcome. AreRuns (λ t. sent_of (outcome_of
+        P.rules step states.now messages.now t)) outcome.sent) }
     ensures counted { IfOk result (λ _. Calls
-        (rules_of P.next_of P.message_of P.Note.cmp P.ALWAYS) step states.now messages.now
+        P.rules step states.now messages.now
         (P.count program.old) (P.count program.new)) }
     ensures at_most { OnErr result (NoMoreCalls
-        (rules_of P.next_of P.message_of P.Note.cmp P.ALWAYS) step states.now messages.now
+        P.rules step states.now messages.now
         (P.count program.old) (P.count program.new)) }
     ensures few { P.count program.new ≤ P.count program.old + 2 ^ 64 }
 {
@@ -50,32 +51,32 @@ fn compute_parts<P: Program>(
     program: &mut P,
     step: u32,
     triples: &[Triple<P::State, P::Note>],
-) -> Result<Left<P::State>, NoMemory>
+) -> Result<Outcome<P::State>, NoMemory>
     requires step { 1 ≤ step }
     requires room { P.count program.old + 2 ^ 64 < 2 ^ 128 }
     requires chain { IsChain triples.now }
-    ensures states { IfOk result (λ left. AreMade (λ pair. next_state (left_of_pair
-        (rules_of P.next_of P.message_of P.Note.cmp P.ALWAYS) step pair)) triples.now left.states) }
-    ensures sent { IfOk result (λ left. AreMade (λ pair. sent_state (left_of_pair
-        (rules_of P.next_of P.message_of P.Note.cmp P.ALWAYS) step pair)) triples.now left.sent) }
+    ensures states { IfOk result (λ outcome. AreMade (λ pair. next_state (outcome_of_pair
+        P.rules step pair)) triples.now outcome.states) }
+    ensures sent { IfOk result (λ outcome. AreMade (λ pair. sent_state (outcome_of_pair
+        P.rules step pair)) triples.now outcome.sent) }
     ensures counted { IfOk result (λ _. P.count program.new ≡ P.count program.old
-        + length (inputs_of (rules_of P.next_of P.message_of P.Note.cmp P.ALWAYS) step triples.now)) }
+        + length (inputs_of P.rules step triples.now)) }
     ensures at_most { P.count program.new ≤ P.count program.old
-        + length (inputs_of (rules_of P.next_of P.message_of P.Note.cmp P.ALWAYS) step triples.now) }
+        + length (inputs_of P.rules step triples.now) }
     ensures few { P.count program.new ≤ P.count program.old + 2 ^ 64 }
 {
-    let mut left = Left {
+    let mut outcome = Outcome {
         states: Partition::new(alloc),
         sent: Partition::new(alloc),
     };
     for triple in triples {
         let next = compute_part(program, step, triple.state(), triple.group());
-        push_part(&mut left, triple.over(), next)?;
+        push_part(&mut outcome, triple.over(), next)?;
     }
-    Ok(left)
+    Ok(outcome)
 }
 
-/// What a vertex is left with at instants at which it has this state and this group.
+/// The outcome of a vertex at instants at which it has this state and this group.
 fn compute_part<P: Program>(
     program: &mut P,
     step: u32,
@@ -84,10 +85,10 @@ fn compute_part<P: Program>(
 ) -> Next<P::State>
     requires step { 1 ≤ step }
     requires room { P.count program.old + 1 < 2 ^ 128 }
-    ensures next { result ≡ left_with (rules_of P.next_of P.message_of P.Note.cmp P.ALWAYS)
+    ensures next { result ≡ outcome_with P.rules
         step state group.now }
     ensures counted { P.count program.new ≡ P.count program.old
-        + (if computes (rules_of P.next_of P.message_of P.Note.cmp P.ALWAYS) step group.now then 1 else 0) }
+        + (if computes P.rules step group.now then 1 else 0) }
 {
     if computes::<P>(step, group) {
         program.compute(step, state, group)
@@ -98,21 +99,21 @@ fn compute_part<P: Program>(
 
 /// Whether a vertex with this group computes in a superstep.
 fn computes<P: Program>(step: u32, group: &[P::Note]) -> bool
-    ensures { result ≡ computes (rules_of P.next_of P.message_of P.Note.cmp P.ALWAYS) step group.now }
+    ensures { result ≡ computes P.rules step group.now }
 {
     step == 1 || P::ALWAYS || !group.is_empty()
 }
 
-/// Adds what a vertex is left with over an interval that comes after the others.
-fn push_part<S: Plain>(left: &mut Left<S>, over: Interval, next: Next<S>) -> Result<(), NoMemory>
-    requires states { last_end left.old.states ≤ start_of over }
-    requires sent { last_end left.old.sent ≤ start_of over }
-    ensures states { OnOk result (Put left.old.states left.new.states over (next_state next)) }
-    ensures sent { OnOk result (Put left.old.sent left.new.sent over (sent_state next)) }
+/// Adds the outcome of a vertex over an interval that comes after the others.
+fn push_part<S: Plain>(outcome: &mut Outcome<S>, over: Interval, next: Next<S>) -> Result<(), NoMemory>
+    requires states { last_end outcome.old.states ≤ start_of over }
+    requires sent { last_end outcome.old.sent ≤ start_of over }
+    ensures states { OnOk result (Put outcome.old.states outcome.new.states over (next_state next)) }
+    ensures sent { OnOk result (Put outcome.old.sent outcome.new.sent over (sent_state next)) }
 {
-    left.states.push(over, next.state)?;
+    outcome.states.push(over, next.state)?;
     if next.send {
-        left.sent.push(over, next.state)?;
+        outcome.sent.push(over, next.state)?;
     }
     Ok(())
 }

@@ -1,6 +1,6 @@
 use Rattle.std.proofs.Common.{◌≡◌, ◌<◌, ◌≤◌, ℕ}
 use Rattle.graphite_warp.specs.Sorted.{sorted}
-use Rattle.graphite_api.specs.Left.{list_of}
+use Rattle.graphite_api.specs.Outcomes.{list_of}
 use Rattle.graphite_api.proofs.groups.sort_groups.Given as goal
 
 abbrev pub invariant-loop-group : goal.invariant-loop-group

@@ -3,24 +3,24 @@ use Rattle.std.proofs.lemmas.List.FromFn.{length-map-range_with_len}
 use Rattle.graphite_warp.specs.Sorted.{sorted}
 use Rattle.graphite_api.specs.Snapshot.{link_of}
 use Rattle.graphite_api.specs.Supersteps.{notes_to}
-use Rattle.graphite_api.specs.Left.{entry_of, list_of, IsTaken}
-use Rattle.graphite_api.proofs.LeftLemmas.{empty, list_of-empty, sorted-alike}
+use Rattle.graphite_api.specs.Outcomes.{entry_of, list_of, IsTaken}
+use Rattle.graphite_api.proofs.OutcomeLemmas.{empty, list_of-empty}
 use Rattle.graphite_api.proofs.instant.groups_at.Goals as goal
 
 pub deliver-requires : goal.deliver-requires
 deliver-requires g c =
-    let len : length c.in_ok-groups.groups ≡ length c.args.left.now = ap length c.in_ok-groups.ensures ∙ length-map-range_with_len (λ _. empty) 0 (length c.args.left.now) in
+    let len : length c.in_ok-groups.groups ≡ length c.args.outcomes.now = ap length c.in_ok-groups.ensures ∙ length-map-range_with_len (λ _. empty) 0 (length c.args.outcomes.now) in
     subst (λ n. All (IsTaken c.args.now n) c.args.arcs.now) (sym len) c.requires
 
 pub returns-clause-len : goal.returns-clause-len
 returns-clause-len g c =
-    let len : length c.in_ok-groups.groups ≡ length c.args.left.now = ap length c.in_ok-groups.ensures ∙ length-map-range_with_len (λ _. empty) 0 (length c.args.left.now) in
+    let len : length c.in_ok-groups.groups ≡ length c.args.outcomes.now = ap length c.in_ok-groups.ensures ∙ length-map-range_with_len (λ _. empty) 0 (length c.args.outcomes.now) in
     c.sort.ensures.len ∙ c.deliver.ensures.len ∙ len
 
 pub returns-clause-groups : goal.returns-clause-groups
 returns-clause-groups g c =
     let plan = g.P.PointProgram.plan in
     λ v.
-    let first = ap (λ groups. list_of groups v) c.in_ok-groups.ensures ∙ list_of-empty 0 (length c.args.left.now) v in
-    let told = c.in_ok-deliver.ensures.told v ∙ ap (λ ns. ns ++ notes_to plan (map link_of c.args.arcs.now) (entry_of c.args.left.now) v) first in
-    c.sort.ensures.sorted v ∙ ap (sorted g.P.Note.Ord.cmp) told ∙ sorted-alike g.P.Note.Ord.cmp plan.order (g.met.P.PointProgram.order_is) (notes_to plan (map link_of c.args.arcs.now) (entry_of c.args.left.now) v)
+    let first = ap (λ groups. list_of groups v) c.in_ok-groups.ensures ∙ list_of-empty 0 (length c.args.outcomes.now) v in
+    let told = c.in_ok-deliver.ensures.told v ∙ ap (λ ns. ns ++ notes_to plan (map link_of c.args.arcs.now) (entry_of c.args.outcomes.now) v) first in
+    c.sort.ensures.sorted v ∙ ap (sorted g.P.Note.Ord.cmp) told ∙ ap (λ order. sorted order (notes_to plan (map link_of c.args.arcs.now) (entry_of c.args.outcomes.now) v)) (g.met.P.Program.order_is ∙ ap (λ rules. rules.order) g.met.P.PointProgram.rules_are)

@@ -2,7 +2,7 @@ use Rattle.std.proofs.Common.{leb, nat_lt, rules}
 use Rattle.std.proofs.lemmas.List.Sorted.{IsPartitionPoint-from_clause, IsPartitionedBy-leb, IsPartitionedBy-ltb}
 use Rattle.graphite_time.specs.Interval.{start_of, end_of}
 use Rattle.graphite_part.proofs.CopyLemmas.{IsNonDecreasingBy-end}
-use Rattle.graphite_loop.proofs.LetterLemmas.{rest_whole}
+use Rattle.graphite_loop.proofs.DeliveryLemmas.{rest_whole}
 use Rattle.graphite_loop.proofs.ScatterLemmas.{later_starts_rise, LeavesApart-made}
 use Rattle.graphite_loop.proofs.scatter.pieces_within.Goals as goal
 

@@ -1,12 +1,11 @@
 use Rattle.std.proofs.Common.{◌++◌, ap, ◌∙◌}
-use Rattle.graphite_loop.specs.Letters.{letters_along}
-use Rattle.graphite_loop.specs.Vertex.{rules_of}
-use Rattle.graphite_loop.proofs.LetterLemmas.{arc-taken}
-use Rattle.graphite_loop.proofs.ScatterLemmas.{letters_along-within}
+use Rattle.graphite_loop.specs.Deliveries.{deliveries_along}
+use Rattle.graphite_loop.proofs.DeliveryLemmas.{arc-taken}
+use Rattle.graphite_loop.proofs.ScatterLemmas.{deliveries_along-within}
 use Rattle.graphite_loop.proofs.scatter.scatter.Goals as goal
 
 pub loop-arc-preserved : goal.loop-arc-preserved
 loop-arc-preserved g c =
-    let within = letters_along-within (rules_of g.P.Program.next_of g.P.Program.message_of g.P.Note.Ord.cmp g.P.Program.ALWAYS) c.arc-item.result c.args.sent.now c.pieces_within.result.now c.pieces_within.ensures in
-    arc-taken (λ arc. letters_along (rules_of g.P.Program.next_of g.P.Program.message_of g.P.Note.Ord.cmp g.P.Program.ALWAYS) c.args.sent.now arc) c.args.arcs.now c.args.out.now.items c.loop-arc.out.items c.scatter_along.new.out.items c.loop-arc.arc-index c.arc-item.result c.loop-arc-test.true c.arc-item.is c.loop-arc.invariant
+    let within = deliveries_along-within g.P.Program.rules c.arc-item.result c.args.sent.now c.pieces_within.result.now c.pieces_within.ensures in
+    arc-taken (λ arc. deliveries_along g.P.Program.rules c.args.sent.now arc) c.args.arcs.now c.args.out.now.items c.loop-arc.out.items c.scatter_along.new.out.items c.loop-arc.arc-index c.arc-item.result c.loop-arc-test.true c.arc-item.is c.loop-arc.invariant
     (c.in_ok-scatter_along.ensures ∙ ap (λ ls. c.loop-arc.out.items ++ ls) within)

@@ -1,12 +1,11 @@
 use Rattle.std.proofs.Common.{◌-◌}
-use Rattle.graphite_loop.specs.Vertex.{rules_of}
 use Rattle.graphite_loop.proofs.RunLemmas.{HasRun}
 use Rattle.graphite_loop.proofs.steps.run_steps.Given as goal
 
 -- the supersteps so far
 abbrev pub invariant-loop-run : goal.invariant-loop-run
 invariant-loop-run g l =
-    HasRun (rules_of g.P.Program.next_of g.P.Program.message_of g.P.Note.Ord.cmp g.P.Program.ALWAYS) l.table l.fn.init.items l.steps l.run l.sends (g.P.Program.count l.program)
+    HasRun g.P.Program.rules l.table l.fn.init.items l.steps l.run l.sends (g.P.Program.count l.program)
 
 abbrev pub decreases-loop-run : goal.decreases-loop-run
 decreases-loop-run g l = l.steps - l.run.made

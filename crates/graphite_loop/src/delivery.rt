@@ -1,8 +1,9 @@
+//! A message on its way to a vertex.
 use graphite_api::Message;
 
 /// A message to a vertex, which waits to be read in the next superstep.
 #[derive(Clone, Copy, Debug, PartialEq, Eq)]
-pub struct Letter<M> {
+pub struct Delivery<M> {
     /// The number of the vertex that it comes to.
     pub to: u32,
     pub message: Message<M>,

@@ -1,18 +1,13 @@
--- What vertices are left with, as a list of one entry a vertex.
-use Rattle.std.specs.Prelude.{ℕ, ◌<◌, ◌≤◌, List, Option, slice_get, slice_index_or, [], option_map}
+-- For private functions alone: the outcomes and the groups of vertices as lists of one entry a vertex.
+use Rattle.std.specs.Prelude.{ℕ, ◌<◌, ◌≤◌, List, Option, slice_get, slice_index_or, []}
 use Rattle.std.specs.Option.{option_flatten}
 use Rattle.graphite_time.specs.declared.interval.Interval.{Interval}
 use Rattle.graphite_time.specs.Interval.{start_of, end_of}
 use Rattle.graphite_api.specs.declared.arc.Arc.{Arc}
-use Rattle.graphite_api.specs.declared.next.Next.{Next}
 
 -- the entry of a vertex; nothing where there is no such vertex
 abbrev pub entry_of : {X : Type 0} → List (Option X) → ℕ → Option X
 entry_of entries v = option_flatten (slice_get entries v)
-
--- the state in an entry, if there is one
-abbrev pub state_of : {S : Type 0} → Option (Next S) → Option S
-state_of left = option_map (λ own. own.state) left
 
 -- the list of a vertex; empty where there is no such vertex
 abbrev pub list_of : {X : Type 0} → List (List X) → ℕ → List X
