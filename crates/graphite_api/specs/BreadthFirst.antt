@@ -1,4 +1,4 @@
--- A small program of snapshots, on which the definitions are checked: the least number of links from
+-- For proofs alone: a small program of snapshots, on which the definitions are checked: the least number of links from
 -- the sources, which start with Some 0.
 use Rattle.std.specs.Prelude.{ℕ, ◌+◌, ◌-◌, ◌^◌, ◌==◌, min, true, false, if◌then◌else◌, List, [], ◌∷◌, Option, None, Some}
 use Rattle.std.specs.Ordering.{nat_cmp}

@@ -8,7 +8,7 @@ use graphite_time::Interval;
 /// An edge of the graph, over an interval of instants at which it can be taken, with its time and
 /// cost there. One edge can have several arcs. Arcs are ordered by their fields, in this order: by
 /// source, by edge, by interval, and then by the rest.
-#[derive(Clone, Copy, Debug, PartialEq, Eq, PartialOrd, Ord)]
+#[derive(Clone, Copy, Debug, Default, PartialEq, Eq, PartialOrd, Ord)]
 pub struct Arc {
     /// The number of the vertex that it leads out of.
     pub from: u32,

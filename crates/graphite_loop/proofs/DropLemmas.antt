@@ -1,4 +1,4 @@
--- What is outcome of a list after its first elements.
+-- What is left of a list after its first elements.
 use Rattle.std.proofs.Common.{◌≡◌, ℕ, zero, suc, ◌<◌, List, [], ◌∷◌, length, get_or, drop, arith, refl}
 
 pub not_dropped : {X : Type 0} (xs : List X) (i : ℕ) (x : X) (rest : List X) → drop i xs ≡ x ∷ rest → i < length xs
