@@ -105,7 +105,11 @@ fn computes<P: Program>(step: u32, group: &[P::Note]) -> bool
 }
 
 /// Adds the outcome of a vertex over an interval that comes after the others.
-fn push_part<S: Plain>(outcome: &mut Outcome<S>, over: Interval, next: Next<S>) -> Result<(), NoMemory>
+fn push_part<S: Plain>(
+    outcome: &mut Outcome<S>,
+    over: Interval,
+    next: Next<S>,
+) -> Result<(), NoMemory>
     requires states { last_end outcome.old.states ≤ start_of over }
     requires sent { last_end outcome.old.sent ≤ start_of over }
     ensures states { OnOk result (Put outcome.old.states outcome.new.states over (next_state next)) }

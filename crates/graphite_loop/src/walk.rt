@@ -148,7 +148,10 @@ fn step_vertex<P: Program>(
 }
 
 /// The messages in deliveries.
-fn messages_of<M: Plain>(alloc: Global, deliveries: &[Delivery<M>]) -> Result<Vec<Message<M>>, NoMemory>
+fn messages_of<M: Plain>(
+    alloc: Global,
+    deliveries: &[Delivery<M>],
+) -> Result<Vec<Message<M>>, NoMemory>
     ensures { IfOk result (λ messages. messages.items ≡ map message_of deliveries.now) }
 {
     let messages = deliveries.iter().map(|delivery| delivery.message);

@@ -1,3 +1,4 @@
+-- The groups so far were sorted.
 use Rattle.std.proofs.Common.{◌≡◌, ◌<◌, ◌≤◌, ℕ}
 use Rattle.graphite_warp.specs.Sorted.{sorted}
 use Rattle.graphite_api.specs.Outcomes.{list_of}

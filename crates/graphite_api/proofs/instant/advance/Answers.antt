@@ -1,3 +1,4 @@
+-- One vertex more makes the superstep, with at most one call.
 use Rattle.std.proofs.Common.{◌≡◌, ◌∙◌, ap, sym, ℕ, ◌+◌, Bool, length, is_some, count_by, arith}
 use Rattle.std.specs.List.{range_with_len}
 use Rattle.graphite_api.specs.Rules.{point_rules, outcome_at, state_of, input_of}

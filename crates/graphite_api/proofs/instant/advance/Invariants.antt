@@ -1,3 +1,4 @@
+-- The vertices so far have made the superstep.
 use Rattle.std.proofs.Common.{◌≡◌, ◌+◌, ◌<◌, ℕ, length, is_some, count_by}
 use Rattle.std.specs.List.{range_with_len}
 use Rattle.graphite_api.specs.Rules.{point_rules, state_of, input_of}

@@ -1,3 +1,4 @@
+-- One arc more brings one note more, or none.
 use Rattle.std.proofs.Common.{◌∙◌, ap, sym, ◌++◌}
 use Rattle.graphite_api.specs.Snapshot.{link_of}
 use Rattle.graphite_api.specs.Supersteps.{note_along}

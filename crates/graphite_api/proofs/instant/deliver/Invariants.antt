@@ -1,3 +1,4 @@
+-- The arcs so far were gone along.
 use Rattle.std.proofs.Common.{◌≡◌, ◌++◌, ℕ, length, map, take}
 use Rattle.graphite_api.specs.Snapshot.{link_of}
 use Rattle.graphite_api.specs.Supersteps.{notes_to}

@@ -1,3 +1,4 @@
+-- What was told is sorted by the order of the plan.
 use Rattle.std.proofs.Common.{◌≡◌, ◌∙◌, ap, sym, subst, ◌++◌, All, length, map}
 use Rattle.std.proofs.lemmas.List.FromFn.{length-map-range_with_len}
 use Rattle.graphite_warp.specs.Sorted.{sorted}

@@ -1,3 +1,4 @@
+-- No vertex so far sends.
 use Rattle.std.proofs.Common.{◌≡◌, ◌<◌, ℕ, false}
 use Rattle.graphite_api.specs.Supersteps.{sends}
 use Rattle.graphite_api.specs.Outcomes.{entry_of}

@@ -1,3 +1,4 @@
+-- The entries so far are those of the first vertices.
 use Rattle.std.proofs.Common.{◌≡◌, ◌<◌, ℕ, length, option_map, slice_get}
 use Rattle.graphite_api.specs.Rules.{idle}
 use Rattle.graphite_api.specs.Snapshot.{start_at}

@@ -1,3 +1,4 @@
+-- Where no vertex sends, every later superstep changes nothing.
 use Rattle.graphite_api.proofs.MadeLemmas.{stop_changes_nothing}
 use Rattle.graphite_api.proofs.laws.early_stop_changes_nothing.Goals as goal
 

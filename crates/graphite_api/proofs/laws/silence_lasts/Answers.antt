@@ -1,3 +1,4 @@
+-- A superstep in which no vertex sends is the last that changes anything.
 use Rattle.graphite_api.proofs.SuperstepLemmas.{silent_for_good}
 use Rattle.graphite_api.proofs.laws.silence_lasts.Goals as goal
 

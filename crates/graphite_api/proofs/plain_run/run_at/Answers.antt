@@ -1,3 +1,4 @@
+-- Each superstep at the instant is the one of the definitions, and so are its calls.
 use Rattle.std.proofs.Common.{◌≡◌, ◌∙◌, ap, sym, subst, ℕ, ◌+◌, ◌<◌, ◌^◌, All, length, map, slice_get, count_by, is_some, false, ◌≤◌, arith}
 use Rattle.std.proofs.lemmas.Result.{IfOk-weaker}
 use Rattle.graphite_api.specs.Rules.{point_rules, state_of, input_of}

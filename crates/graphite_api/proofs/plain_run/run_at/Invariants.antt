@@ -1,3 +1,4 @@
+-- So many supersteps were made, and none of them was the last.
 use Rattle.std.proofs.Common.{◌≡◌, ◌+◌, ℕ, length, slice_get}
 use Rattle.graphite_api.specs.Snapshot.{snapshot_at}
 use Rattle.graphite_api.specs.Supersteps.{after}

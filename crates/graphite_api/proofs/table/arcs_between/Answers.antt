@@ -1,3 +1,4 @@
+-- Between two starts stand the arcs out of one vertex.
 use Rattle.graphite_api.proofs.TableLemmas.{arcs_out-between}
 use Rattle.graphite_api.proofs.table.arcs_between.Goals as goal
 

@@ -1,3 +1,4 @@
+-- The first arc that is not passed has a source that is not below the vertex, and so have those after it.
 use Rattle.std.proofs.Common.{◌≤◌, sym, subst, arith}
 use Rattle.std.proofs.lemmas.List.Elements.{at_read}
 use Rattle.graphite_api.specs.declared.arc.Arc.{Arc}

@@ -1,3 +1,4 @@
+-- The arcs passed so far have sources below the vertex.
 use Rattle.std.proofs.Common.{◌≤◌, ◌<◌, ◌-◌, length}
 use Rattle.std.specs.List.{AllWithin}
 use Rattle.graphite_api.proofs.table.next_start.Given as goal

@@ -1,3 +1,4 @@
+-- The costs so far have 32 bits.
 use Rattle.std.proofs.Common.{◌<◌, ◌^◌}
 use Rattle.std.specs.List.{AllWithin}
 use Rattle.graphite_api.proofs.table.see_costs.Given as goal

@@ -1,3 +1,4 @@
+-- The lives so far are lives.
 use Rattle.std.proofs.Common.{ℕ, ◌<◌, get_or, []}
 use Rattle.graphite_time.specs.Life.{IsLife}
 use Rattle.graphite_api.proofs.table.see_lives.Given as goal

@@ -1,3 +1,4 @@
+-- The order of arcs is total and exact, so there is one list in order.
 use Rattle.std.proofs.Common.{sym}
 use Rattle.std.proofs.lemmas.List.Sorted.{IsPermutation-refl}
 use Rattle.graphite_warp.proofs.SortedLemmas.{sorted_is}

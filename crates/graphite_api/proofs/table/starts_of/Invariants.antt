@@ -1,3 +1,4 @@
+-- The starts so far are those of the first vertices.
 use Rattle.std.proofs.Common.{◌≡◌, ◌≤◌, ◌<◌, ℕ, length, slice_index}
 use Rattle.std.specs.List.{AllWithin}
 use Rattle.graphite_api.specs.Table.{IsStart}

@@ -1,3 +1,4 @@
+-- The arcs so far may stand in the table.
 use Rattle.std.specs.List.{AllWithin}
 use Rattle.graphite_api.specs.Table.{IsArcOn}
 use Rattle.graphite_api.proofs.tests.are_arcs_on.Given as goal

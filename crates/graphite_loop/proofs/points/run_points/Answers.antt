@@ -1,3 +1,4 @@
+-- The rules of the program are those of its plan.
 use Rattle.std.proofs.Common.{subst}
 use Rattle.std.specs.Cmp.{IsTotalOrder}
 use Rattle.std.proofs.lemmas.Result.{IfOk-weaker}

@@ -1,3 +1,4 @@
+-- The partitions so far are chains.
 use Rattle.std.proofs.Common.{ℕ, ◌<◌, get_or, []}
 use Rattle.graphite_part.specs.Pieces.{IsChain}
 use Rattle.graphite_loop.proofs.run.see_chains.Given as goal

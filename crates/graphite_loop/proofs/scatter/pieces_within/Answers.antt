@@ -1,3 +1,4 @@
+-- The pieces that are left out lie before or after the interval.
 use Rattle.std.proofs.Common.{leb, nat_lt, rules}
 use Rattle.std.proofs.lemmas.List.Sorted.{IsPartitionPoint-from_clause, IsPartitionedBy-leb, IsPartitionedBy-ltb}
 use Rattle.graphite_time.specs.Interval.{start_of, end_of}

@@ -1,3 +1,4 @@
+-- One arc more, along which the pieces left out bring nothing.
 use Rattle.std.proofs.Common.{◌++◌, ap, ◌∙◌}
 use Rattle.graphite_loop.specs.Deliveries.{deliveries_along}
 use Rattle.graphite_loop.proofs.DeliveryLemmas.{arc-taken}

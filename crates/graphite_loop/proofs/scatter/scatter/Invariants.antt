@@ -1,3 +1,4 @@
+-- The arcs so far were gone along.
 use Rattle.std.proofs.Common.{◌≡◌, ◌++◌, take}
 use Rattle.std.specs.List.{flat_map}
 use Rattle.graphite_loop.specs.Deliveries.{deliveries_along}

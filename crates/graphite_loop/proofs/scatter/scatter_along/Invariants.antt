@@ -1,3 +1,4 @@
+-- The pieces so far were told along the arc.
 use Rattle.std.proofs.Common.{◌≡◌, ◌++◌, take}
 use Rattle.graphite_loop.specs.Deliveries.{deliveries_along}
 use Rattle.graphite_loop.proofs.scatter.scatter_along.Given as goal

@@ -1,3 +1,4 @@
+-- The instants that both hold are instants of the arc.
 use Rattle.graphite_part.proofs.ZipLemmas.{common-within}
 use Rattle.graphite_loop.proofs.scatter.told.Goals as goal
 

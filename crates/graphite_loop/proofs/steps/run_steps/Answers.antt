@@ -1,3 +1,4 @@
+-- One superstep more, up to the last.
 use Rattle.std.proofs.Common.{◌||◌, ◌&&◌, nat_lt, refl, sym, ap, ◌∙◌}
 use Rattle.graphite_loop.proofs.RunLemmas.{HasRun-none, HasRun-more, IsRun-from, on_parts, off_parts}
 use Rattle.graphite_loop.proofs.steps.run_steps.Goals as goal

@@ -1,3 +1,4 @@
+-- The supersteps so far.
 use Rattle.std.proofs.Common.{◌-◌}
 use Rattle.graphite_loop.proofs.RunLemmas.{HasRun}
 use Rattle.graphite_loop.proofs.steps.run_steps.Given as goal

@@ -1,3 +1,4 @@
+-- One triple more is computed, with at most one call.
 use Rattle.std.proofs.Common.{◌+◌, arith, ap, ◌∙◌, length, subst}
 use Rattle.std.proofs.lemmas.List.{take_all}
 use Rattle.graphite_loop.specs.Vertex.{outcome_of_pair, next_state, sent_state, inputs_of, AreMade}

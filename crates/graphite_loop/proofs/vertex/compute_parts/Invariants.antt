@@ -1,3 +1,4 @@
+-- The triples so far were computed.
 use Rattle.std.proofs.Common.{take}
 use Rattle.graphite_loop.proofs.PartLemmas.{HaveComputed}
 use Rattle.graphite_loop.proofs.vertex.compute_parts.Given as goal

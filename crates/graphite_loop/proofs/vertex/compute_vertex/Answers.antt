@@ -1,3 +1,4 @@
+-- The triples are the maximal runs of state and group of the vertex.
 use Rattle.std.proofs.Common.{sym, subst}
 use Rattle.graphite_part.specs.Pieces.{IsChain}
 use Rattle.graphite_loop.proofs.PartLemmas.{aligned, IfOk-then, OnErr-from, states-made, sent-made, Calls-made, NoMoreCalls-made}

@@ -1,3 +1,4 @@
+-- The next delivery is to a later vertex.
 use Rattle.graphite_loop.proofs.DeliveryLemmas.{AreOwn-past, same_delivery}
 use Rattle.graphite_loop.proofs.walk.deliveries_to.Goals as goal
 

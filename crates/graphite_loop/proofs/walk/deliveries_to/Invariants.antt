@@ -1,3 +1,4 @@
+-- The deliveries so far are to the vertex.
 use Rattle.std.proofs.Common.{◌-◌, length}
 use Rattle.graphite_loop.proofs.DeliveryLemmas.{AreOwn}
 use Rattle.graphite_loop.proofs.walk.deliveries_to.Given as goal

@@ -1,3 +1,4 @@
+-- A walk over all vertices, and the deliveries sorted, are a superstep.
 use Rattle.std.proofs.Common.{length, subst}
 use Rattle.graphite_loop.specs.Deliveries.{standing_of}
 use Rattle.graphite_loop.specs.Walk.{IsWalked}

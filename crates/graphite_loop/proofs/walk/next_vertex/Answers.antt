@@ -1,3 +1,4 @@
+-- Vertices without deliveries are idle, where not every vertex computes.
 use Rattle.std.proofs.Common.{arith, sym, subst, ◌∙◌}
 use Rattle.graphite_loop.specs.Deliveries.{AreRising}
 use Rattle.graphite_loop.proofs.DeliveryLemmas.{first_rising, no_inbox, from_then_some, from_no_then_some}

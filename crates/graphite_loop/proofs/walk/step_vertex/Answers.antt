@@ -1,3 +1,4 @@
+-- The new states of the vertex stand in place of the old ones, and what it sends behind the other deliveries.
 use Rattle.std.proofs.Common.{refl, ◌∙◌}
 use Rattle.graphite_loop.proofs.WalkLemmas.{IsVertexStep-made, sends_early, sends_late}
 use Rattle.graphite_loop.proofs.walk.step_vertex.Goals as goal

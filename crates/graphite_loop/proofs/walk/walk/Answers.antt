@@ -1,3 +1,4 @@
+-- One vertex more makes the superstep, and those between stay idle.
 use Rattle.std.proofs.Common.{arith, refl, length}
 use Rattle.graphite_loop.proofs.PartLemmas.{OnErr-from}
 use Rattle.graphite_loop.proofs.DeliveryLemmas.{rest_whole}

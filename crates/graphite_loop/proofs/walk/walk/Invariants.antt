@@ -1,3 +1,4 @@
+-- The vertices so far have made the superstep.
 use Rattle.std.proofs.Common.{◌-◌, length}
 use Rattle.graphite_loop.proofs.WalkLemmas.{IsWalking}
 use Rattle.graphite_loop.proofs.walk.walk.Given as goal

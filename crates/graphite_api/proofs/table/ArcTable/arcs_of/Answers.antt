@@ -1,3 +1,4 @@
+-- The starts that are kept are those of the arcs.
 use Rattle.std.proofs.Common.{◌≡◌, ap, ◌+◌, length, sym, subst, arith}
 use Rattle.graphite_api.specs.Table.{IsStart, AreStarts}
 use Rattle.graphite_api.proofs.TableLemmas.{start_read, starts_rise}

@@ -1,3 +1,4 @@
+-- A new table keeps what a table keeps.
 use Rattle.std.proofs.Common.{rules}
 use Rattle.std.proofs.lemmas.List.Sorted.{All-permutation}
 use Rattle.graphite_api.specs.Table.{IsArcOn}

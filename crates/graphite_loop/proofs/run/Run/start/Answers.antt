@@ -1,3 +1,4 @@
+-- Without deliveries every inbox is empty.
 use Rattle.graphite_loop.proofs.RunLemmas.{IsStart-new}
 use Rattle.graphite_loop.proofs.run.Run.start.Goals as goal
 
