@@ -10,13 +10,17 @@ use crate::store::Store;
 use graphite_base::TEXT_LIMIT;
 use graphite_text::{LENGTH_RULE, Lines, MISSING_END_RULE};
 use std::alloc::Global;
+use thiserror::Error;
 
 /// Why a text is not loaded.
-#[derive(Clone, Copy, Debug, PartialEq, Eq)]
+#[derive(Clone, Copy, Debug, PartialEq, Eq, Error)]
 pub enum LoadFault {
     /// The text is refused: `line`, counted from 1, is the first line that breaks a rule, and
     /// `rule` the least that it breaks. Line 0 is the text as a whole.
+    #[error("line {line} breaks rule {rule}")]
     Rule { line: u32, rule: u8 },
+    /// Out of memory.
+    #[error("out of memory")]
     NoMemory,
 }
 
@@ -35,8 +39,9 @@ impl Fault {
 
 ghost use Rattle.graphite_graph.specs.Load.{ExplainsLines};
 
-/// Reads the graph of a text. It takes memory for the graph, whose names stay in the text, and
-/// time in proportion to the text.
+/// Reads the graph of a text of at most [`graphite_base::TEXT_LIMIT`] bytes. It takes memory for the
+/// graph, whose names stay in the text. `Rule` exactly where the text is refused, by its line and
+/// rule; out of memory at any line before.
 pub fn load(alloc: Global, text: &[u8]) -> Result<Graph<'_>, LoadFault>
     ensures accepted { IfOk result (λ graph. reading_of text.now ≡ Accepted graph) }
     ensures refused { (line rule : ℕ) → result ≡ Err (LoadFault.Rule line rule)

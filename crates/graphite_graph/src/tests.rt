@@ -93,12 +93,8 @@ fn degrees_of(graph: &Graph<'_>) -> Result<Vec<Partition<Facts>>, NoMemory> {
 }
 
 /// The number of each vertex over its life.
-fn numbers_of(alloc: Global, graph: &Graph<'_>) -> Result<Vec<Partition<u32>>, NoMemory> {
-    graph.map_facts(
-        alloc,
-        &Ask { outdegree: false },
-        &|facts: Facts| { facts.vertex },
-    )
+fn numbers_of(graph: &Graph<'_>) -> Result<Vec<Partition<u32>>, NoMemory> {
+    graph.map_facts(&Ask { outdegree: false }, &|facts: Facts| { facts.vertex })
 }
 
 fn assert_numbers(rt: &impl Abort, numbers: &[Partition<u32>]) {
@@ -111,7 +107,7 @@ fn assert_numbers(rt: &impl Abort, numbers: &[Partition<u32>]) {
 fn facts_change_where_an_edge_begins_or_ends(rt: HostRuntime) -> Result<(), Fail> {
     let graph = load(rt.alloc(), three_stops())?;
     assert_facts(&rt, &degrees_of(&graph)?);
-    assert_numbers(&rt, &numbers_of(rt.alloc(), &graph)?);
+    assert_numbers(&rt, &numbers_of(&graph)?);
     Ok(())
 }
 
