@@ -1,14 +1,11 @@
 -- Lists of one entry a vertex, and the notes that links bring.
-use Rattle.std.proofs.Common.{◌≡◌, ◌≢◌, ◌∙◌, sym, ap, refl, subst, ℕ, zero, suc, ◌+◌, ◌<◌, ◌≤◌, ◌==◌, Bool, true, false, cond, List, [], ◌∷◌, ◌++◌, length, get_or, map, take, filter, filter_map, count_by, sum_by, Option, Some, None, arith, append_assoc, length-append, ⊎_elim}
+use Rattle.std.proofs.Common.{◌≡◌, ◌≢◌, ◌∙◌, sym, ap, refl, subst, ℕ, zero, suc, ◌+◌, ◌<◌, ◌≤◌, ◌==◌, Bool, true, false, cond, List, [], ◌∷◌, ◌++◌, length, get_or, map, take, filter, filter_map, count_by, Option, Some, None, arith, append_assoc, length-append, ⊎_elim}
 use Rattle.std.specs.List.{cons_option, range_with_len}
 use Rattle.std.specs.Option.{option_flatten}
 use Rattle.std.proofs.lemmas.Bool.{cond-true, cond-false, false_from_ne_true, eqb-true, eq-eqb, cases_lt}
 use Rattle.std.proofs.lemmas.List.{append-nil, map-append, take_more}
 use Rattle.std.proofs.lemmas.List.Elements.{filter-append, filter_map-append}
 use Rattle.std.proofs.lemmas.Option.{slice_get-get_or, slice_get_past}
-use mathlib.Core.Path.{fun_ext}
-use Rattle.std.specs.declared.cmp.Ordering.{Ordering}
-use Rattle.graphite_warp.specs.Sorted.{sorted}
 use Rattle.graphite_api.specs.declared.next.Next.{Next}
 use Rattle.graphite_api.specs.declared.arc.Arc.{Arc}
 use Rattle.graphite_api.specs.Plan.{Plan}

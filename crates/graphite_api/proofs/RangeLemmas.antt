@@ -1,5 +1,5 @@
 -- Tests of the numbers of a range, and sums over them.
-use Rattle.std.proofs.Common.{◌≡◌, ◌∙◌, sym, ap, refl, ℕ, zero, suc, ◌+◌, ◌<◌, ◌≤◌, ◌||◌, Bool, true, false, find, Some, None, arith, subst, ⊎_elim, List, [], ◌∷◌, ◌++◌, cond, sum_by, count_by}
+use Rattle.std.proofs.Common.{◌≡◌, ◌∙◌, sym, ap, refl, ℕ, zero, suc, ◌+◌, ◌<◌, ◌≤◌, ◌||◌, Bool, true, false, find, Some, None, arith, subst, ⊎_elim, [], ◌∷◌, ◌++◌, cond, sum_by, count_by}
 use Rattle.std.specs.List.{list_any, list_all, range_with_len}
 use Rattle.std.proofs.lemmas.Bool.{cond-true, cond-false, cases_lt, and_parts, and_from}
 use Rattle.std.proofs.lemmas.List.Sums.{sum_by-append, count_by-le-length}

@@ -1,6 +1,7 @@
 -- What follows of supersteps on one snapshot.
 use Rattle.std.proofs.Common.{◌≡◌, ◌∙◌, sym, ap, refl, ℕ, zero, suc, ◌+◌, ◌<◌, ◌≤◌, ◌==◌, Bool, true, false, List, [], ◌∷◌, ◌++◌, map, filter, filter_map, is_some, Option, Some, None, option_map, arith, ⊎_elim}
 use Rattle.std.specs.List.{cons_option}
+use mathlib.Core.Path.{fun_ext}
 use Rattle.std.proofs.lemmas.Bool.{cond-true, cond-false, cases_lt, false_from_ne_true, eqb-true}
 use Rattle.std.proofs.lemmas.List.Elements.{filter-append, filter_map-append}
 use Rattle.graphite_warp.specs.Sorted.{sorted}
@@ -74,6 +75,39 @@ module _ {S M : Type 0} (plan : Plan S M) (links : List Link) (k : ℕ) (states 
   some_on zero v = mapped (states v) _
   some_on (suc n) v =
       mapped (state_of (going_on plan links k states groups n v)) _ ∙ mapped (going_on plan links k states groups n v) _ ∙ some_on n v
+
+-- supersteps that go on from what n of them left are those after n of one run
+module _ {S M : Type 0} (plan : Plan S M) (links : List Link) (k : ℕ) (states : ℕ → Option S) (groups : ℕ → List M) (n : ℕ) where
+  abbrev whole : ℕ → ℕ → Option (Next S)
+  whole m v = going_on plan links k states groups m v
+
+  abbrev read : ℕ → List M
+  read v = groups_on plan links groups n (whole n) v
+
+  abbrev later : ℕ → ℕ → Option (Next S)
+  later m v = going_on plan links (number_after k n) (λ w. state_of (whole n w)) read m v
+
+  same_number : (m j : ℕ) → j ≡ n + m → number_after (number_after k n) m ≡ number_after k j
+  same_number m j is =
+      omega (arith, is, number_after-is (number_after k n) m, number_after-is k n, number_after-is k j)
+
+  kept : (o : Option S) → state_of (option_map idle o) ≡ o
+  kept None = refl
+  kept (Some state) = refl
+
+  pub later_is : (m v : ℕ) → later (suc m) v ≡ whole (suc (n + m)) v
+  later_is zero v =
+      let here : n ≡ n + zero = omega arith in
+      let number = same_number (suc zero) (suc n) (omega arith) in
+      ap (λ number. outcome_at (point_rules plan) number (state_of (option_map idle (state_of (whole n v)))) (read v)) number
+      ∙ ap (λ state. outcome_at (point_rules plan) (number_after k (suc n)) state (read v)) (kept (state_of (whole n v)))
+      ∙ ap (λ m. whole (suc m) v) here
+  later_is (suc m) v =
+      let here : suc (n + m) ≡ n + suc m = omega arith in
+      let number = same_number (suc (suc m)) (suc (suc (n + m))) (omega arith) in
+      ap (λ number. superstep plan number (later (suc m)) (group_of plan links (later (suc m))) v) number
+      ∙ ap (λ (outcomes : ℕ → Option (Next S)). superstep plan (number_after k (suc (suc (n + m)))) outcomes (group_of plan links outcomes) v) (fun_ext (later_is m))
+      ∙ ap (λ m. whole (suc m) v) here
 
 -- the same from the start
 pub silent_for_good : {S M : Type 0} (plan : Plan S M) (snapshot : Snapshot S) (k j : ℕ) → plan.always ≡ false → 1 ≤ k → ((v : ℕ) → sends_in plan snapshot k v ≡ false) → k ≤ j → (v : ℕ) → after plan snapshot j v ≡ after plan snapshot k v

@@ -15,7 +15,7 @@ mod table;
 
 pub use arc::Arc;
 pub use graphite_warp::Message;
-pub use laws::{both_ends_tell, early_stop_changes_nothing, silence_lasts};
+pub use laws::{both_ends_tell, early_stop_changes_nothing, going_on_is_one_run, silence_lasts};
 pub use next::Next;
 pub use plain_run::run_at;
 pub use point_program::PointProgram;
