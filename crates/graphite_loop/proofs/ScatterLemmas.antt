@@ -1,12 +1,11 @@
 -- The pieces that do not meet an arc's interval bring nothing along it.
-use Rattle.std.proofs.Common.{◌≡◌, ℕ, zero, suc, ◌+◌, ◌<◌, ◌≤◌, Bool, true, false, List, [], ◌∷◌, ◌++◌, length, get_or, take, drop, map, None, min, max, refl, sym, ◌∙◌, ap, subst, arith, leb, nat_lt}
+use Rattle.std.proofs.Common.{◌≡◌, ℕ, zero, suc, ◌+◌, ◌<◌, ◌≤◌, true, false, List, [], ◌∷◌, ◌++◌, length, get_or, take, drop, map, None, refl, sym, ◌∙◌, ap, subst, arith, leb, nat_lt}
 use Rattle.std.specs.List.Sorted.{IsNonDecreasingBy, IsPartitionPoint}
 use Rattle.std.specs.Option.{option_and_then, option_to_list}
-use Rattle.std.proofs.lemmas.Bool.{le-ltb, ltb-false, leb-true}
+use Rattle.std.proofs.lemmas.Bool.{ltb-false, leb-true}
 use Rattle.std.proofs.lemmas.Grind.{flat_map-append}
 use Rattle.std.proofs.lemmas.List.{append-nil, get_or-take, get_or-drop, length-take, length-drop, take-append-drop}
 use Rattle.std.proofs.lemmas.List.Concat.{flat_map-cons}
-use Rattle.graphite_time.specs.declared.TheConstants.{LAST}
 use Rattle.graphite_time.specs.declared.interval.Interval.{Interval}
 use Rattle.graphite_time.specs.Interval.{start_of, end_of}
 use Rattle.graphite_time.specs.Meet.{meet_of}
