@@ -18,8 +18,9 @@ pub struct Arc {
     pub over: Interval,
     /// The number of the vertex that it leads to.
     pub to: u32,
-    /// How many instants it takes.
+    /// How many instants it takes, at least 1 in a table.
     pub time: u32,
+    /// What it costs.
     pub cost: u32,
     /// The lifespan of the target that an arrival is in.
     pub stay: Interval,

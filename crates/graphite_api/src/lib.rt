@@ -23,7 +23,7 @@ pub use program::Program;
 pub use ran_at::RanAt;
 pub use table::ArcTable;
 
-/// How many supersteps a run may have.
+/// The greatest number of supersteps of a run.
 pub const STEP_LIMIT: u32 = 2_097_152;
 
 #[cfg(test)]

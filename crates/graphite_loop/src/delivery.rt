@@ -6,5 +6,6 @@ use graphite_api::Message;
 pub struct Delivery<M> {
     /// The number of the vertex that it comes to.
     pub to: u32,
+    /// The message, with the instants at which it holds.
     pub message: Message<M>,
 }

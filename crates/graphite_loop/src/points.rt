@@ -17,7 +17,8 @@ use std::alloc::Global;
 /// the first in which no vertex sends at any instant, but all of them where every vertex always
 /// computes. In each the program is called once for each vertex and each maximal interval on which
 /// the vertex computes with the same state and the same group. `init` has a partition for each
-/// vertex, over exactly its life, and the program's count of calls is 0.
+/// vertex, over exactly its life, and the program's count of calls is 0. At [`NoMemory`] the states are
+/// given up.
 pub fn run_points<P: PointProgram>(
     alloc: Global,
     table: &ArcTable,

@@ -49,13 +49,14 @@ impl<'t, P: Program> Model for Run<'t, P> {
 
 impl<'t, P: Program> Run<'t, P> {
     /// Begins with a state for each vertex at each instant of its life, and no messages. `init` has
-    /// a partition for each vertex, over exactly its life.
+    /// a partition for each vertex, over exactly its life. It takes no memory.
     pub fn start(
         alloc: Global,
         table: &'t ArcTable,
         init: Vec<Partition<P::State>>,
     ) -> Result<Run<'t, P>, NoMemory>
         requires { AreInitial table.now.lives init.items }
+        ensures takes_no_memory { IsOk result }
         ensures table { IfOk result (λ run. run.table ≡ table.now) }
         ensures start { IfOk result (λ run. IsStart init.items run.standing) }
         ensures made { IfOk result (λ run. run.made ≡ 0) }

@@ -25,7 +25,8 @@ pub struct Ran<S: Plain> {
 
 /// Makes at most `steps` supersteps, of which there are 1 to [`STEP_LIMIT`]: all of them where every
 /// vertex always computes; else up to the first in which no vertex sends at any instant. `init` has a
-/// partition for each vertex, over exactly its life, and the program's count of calls is 0.
+/// partition for each vertex, over exactly its life, and the program's count of calls is 0. At
+/// [`NoMemory`] the states are given up.
 pub fn run_steps<P: Program>(
     alloc: Global,
     table: &ArcTable,
