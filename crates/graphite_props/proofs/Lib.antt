@@ -4,3 +4,6 @@ pub mod PropertyLemmas
 pub mod TimelineLemmas
 pub mod TurnLemmas
 pub mod StoreLemmas
+pub mod TakenLemmas
+pub mod RowsLemmas
+pub mod PaintedLemmas

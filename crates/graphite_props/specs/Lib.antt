@@ -4,3 +4,4 @@ pub mod Store
 pub mod Hasher
 pub mod Turn
 pub mod Places
+pub mod Taken

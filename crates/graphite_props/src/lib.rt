@@ -9,12 +9,16 @@ mod hasher;
 mod keys;
 mod meets;
 mod places;
+mod places_of;
 mod row;
+mod rows;
+mod taken;
 mod timelines;
 mod turn;
 
 pub use fault::AddFault;
 pub use row::PropRow;
+pub use rows::Rows;
 pub use timelines::Timelines;
 
 #[cfg(test)]

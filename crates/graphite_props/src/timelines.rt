@@ -1,5 +1,5 @@
 //! Properties with their values by instant.
-ghost use Rattle.std.specs.Prelude.{◌≡◌, ◌<◌, ◌≤◌, ◌↔◌, ◌++◌, ℕ, List, [], ◌∷◌, not, true, false, length, map, slice_get, is_some, Err, Some, All, IfSome, OnOk, OnErr};
+ghost use Rattle.std.specs.Prelude.{◌≡◌, ◌<◌, ◌≤◌, ◌↔◌, ◌++◌, ℕ, List, [], ◌∷◌, not, true, false, length, map, slice_get, is_some, Err, Some, All, IfSome, OnOk, OnErr, IfOk};
 ghost use Rattle.std.specs.List.{position_or_len};
 ghost use Rattle.std.specs.Str.{bytes_eq};
 ghost use Rattle.graphite_part.specs.Pieces.{value_at};
@@ -14,7 +14,8 @@ ghost use Rattle.graphite_props.specs.Rows.{properties_of};
 use crate::keys::{add_key, next_number};
 use crate::meets::meets;
 use crate::places::Places;
-use crate::{AddFault, PropRow};
+use crate::places_of::places_of;
+use crate::{AddFault, PropRow, Rows};
 use graphite_part::Partition;
 use graphite_time::{Interval, NoMemory};
 use indexmap::IndexSet;
@@ -54,6 +55,16 @@ impl<'a> Timelines<'a> {
             rows: Vec::new(alloc),
             places: Places::new(alloc),
         }
+    }
+
+    /// The same properties, with their values by instant, which are made in the order of time. Time in
+    /// proportion to n log n for n rows, whatever their order.
+    pub fn of_rows(rows: Rows<'a>) -> Result<Timelines<'a>, NoMemory>
+        ensures { IfOk result (λ timelines. timelines ≡ rows.entry) }
+    {
+        let Rows { keys, rows, taken } = rows;
+        let places = places_of(*rows.allocator(), &rows, &taken)?;
+        Ok(Timelines { keys, rows, places })
     }
 
     /// Adds a property at the end. `Overlap` exactly where one of this owner and key holds at an
