@@ -1,5 +1,5 @@
 -- Timelines that are painted row by row, in any order, are those of the rows' properties.
-use Rattle.std.proofs.Common.{◌≡◌, refl, sym, ap, subst, ◌∙◌, ℕ, zero, suc, ◌+◌, ◌<◌, ◌≤◌, ◌==◌, arith, Bool, true, false, cond, ◌&&◌, ◌||◌, nat_eq, List, [], ◌∷◌, length, get_or, map, All, Option, Some, None, is_some, option_map, position, ⊎_elim, ◌⊎◌, inl, inr}
+use Rattle.std.proofs.Common.{◌≡◌, refl, sym, ap, subst, ◌∙◌, ℕ, zero, suc, ◌+◌, ◌<◌, ◌≤◌, arith, Bool, true, false, cond, ◌&&◌, ◌||◌, nat_eq, List, [], ◌∷◌, length, get_or, map, All, Option, Some, None, is_some, option_map, position, ⊎_elim, ◌⊎◌, inl, inr}
 use Rattle.std.specs.Str.{bytes_eq}
 use Rattle.std.specs.List.{list_any, find, position_or_len}
 use Rattle.std.specs.Option.{option_and_then}
@@ -8,16 +8,14 @@ use Rattle.std.specs.Map.{lookup, values_of}
 use Rattle.std.specs.BTreeMap.{BTreeMap, IsOrdered}
 use Rattle.std.proofs.lemmas.Cmp.{nat_cmp_total}
 use Rattle.std.proofs.lemmas.Map.Views.{All-found}
-use Rattle.std.proofs.lemmas.Bool.{cond-true, cond-false, cases_lt, and_parts, true≢false, false_from_ne_true, eqb-true, eq-eqb}
-use Rattle.std.proofs.lemmas.List.Folds.{list_any_at, list_any_none}
+use Rattle.std.proofs.lemmas.Bool.{cond-true, cond-false, cases_lt, and_parts, true≢false, eqb-true, eq-eqb}
+use Rattle.std.proofs.lemmas.List.Folds.{list_any_at}
 use Rattle.std.proofs.lemmas.List.{get_or_default}
 use Rattle.std.proofs.lemmas.Option.{same_Some, none-some}
-use Rattle.graphite_time.specs.declared.interval.Interval.{Interval}
 use Rattle.graphite_time.specs.Interval.{start_of, end_of, holds}
 use Rattle.graphite_time.proofs.LifeLemmas.{holds-true}
 use Rattle.graphite_text.specs.Graph.{PlainProperty, is_property_at, property_at}
 use Rattle.graphite_part.specs.declared.piece.Piece.{Piece}
-use Rattle.graphite_part.specs.Pieces.{painted}
 use Rattle.graphite_props.specs.declared.row.PropRow.{PropRow}
 use Rattle.graphite_props.specs.Properties.{is_property_of, has_property, keys_of}
 use Rattle.graphite_props.specs.Rows.{property_of, properties_of}

@@ -1,5 +1,5 @@
 -- Rows as properties: the keys are known by their numbers, what is taken says where properties are apart, and one more row.
-use Rattle.std.proofs.Common.{◌≡◌, refl, sym, ap, subst, ◌∙◌, ℕ, suc, ◌+◌, ◌-◌, ◌^◌, ◌<◌, ◌≤◌, ◌==◌, max, arith, Bool, true, false, not, cond, ◌&&◌, nat_eq, nat_lt, List, [], ◌∷◌, ◌++◌, length, length-append, get_or, map, All, Option, Some, None, is_some, position, ⊎_elim, ◌⊎◌, inl, inr}
+use Rattle.std.proofs.Common.{◌≡◌, refl, sym, ap, subst, ◌∙◌, ℕ, ◌^◌, ◌<◌, ◌≤◌, ◌==◌, max, arith, Bool, true, false, not, ◌&&◌, nat_eq, nat_lt, List, [], ◌∷◌, ◌++◌, length, length-append, get_or, All, Option, Some, position, ⊎_elim, inl, inr}
 use Rattle.std.specs.Str.{bytes_eq}
 use Rattle.std.specs.List.{list_any, position_or_len}
 use Rattle.std.proofs.lemmas.Bool.{cond-true, cond-false, cases_lt, and_parts, true≢false, false_from_ne_true, eqb-true}
@@ -15,19 +15,19 @@ use Rattle.graphite_time.specs.declared.interval.Interval.{Interval}
 use Rattle.graphite_time.specs.Interval.{start_of, end_of, holds}
 use Rattle.graphite_time.proofs.LifeLemmas.{holds-true, holds-from}
 use Rattle.graphite_text.specs.declared.limits.TheConstants.{PROPERTY_LIMIT}
-use Rattle.graphite_text.specs.Graph.{PlainProperty, spans, is_property_at}
+use Rattle.graphite_text.specs.Graph.{is_property_at}
 use Rattle.graphite_text.specs.Reading.{is_apart}
 use Rattle.graphite_text.specs.Spans.{as_span}
 use Rattle.graphite_text.proofs.ThroughoutLemmas.{throughout-from}
 use Rattle.graphite_props.specs.declared.row.PropRow.{PropRow}
 use Rattle.graphite_props.specs.Properties.{is_property_of, keys_of, with_key, property}
 use Rattle.graphite_props.specs.Rows.{property_of, properties_of}
-use Rattle.graphite_props.specs.Store.{Place, place_eq}
+use Rattle.graphite_props.specs.Store.{place_eq}
 use Rattle.graphite_props.specs.Turn.{place_of, has_place}
-use Rattle.graphite_props.specs.Taken.{code_at, code_of, IsApart, is_met_by, AreRows, IsOther, IsFound, AreTaken}
+use Rattle.graphite_props.specs.Taken.{IsApart, is_met_by, AreRows, IsOther, IsFound, AreTaken}
 use Rattle.graphite_props.proofs.ListLemmas.{list_any-map, position-found, position_or_len-found}
 use Rattle.graphite_props.proofs.PropertyLemmas.{keys_of-push, is_property_at-parts, none_on_apart}
-use Rattle.graphite_props.proofs.TimelineLemmas.{same_place, with_key-length, with_key-stays, number-own, number-names, number-within}
+use Rattle.graphite_props.proofs.TimelineLemmas.{with_key-length, with_key-stays, number-own, number-names, number-within}
 use Rattle.graphite_props.proofs.StoreLemmas.{properties_of-push}
 use Rattle.graphite_props.proofs.TakenLemmas.{code-between, small_start, at_last, met-parts}
 

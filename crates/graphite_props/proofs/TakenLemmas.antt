@@ -1,5 +1,5 @@
 -- Rows by the codes of their places and starts: the last up to a code decides whether an interval is taken.
-use Rattle.std.proofs.Common.{◌≡◌, refl, sym, ap, subst, ◌∙◌, ℕ, zero, suc, ◌+◌, ◌-◌, ◌*◌, ◌^◌, ◌<◌, ◌≤◌, arith, Bool, true, false, cond, ◌&&◌, nat_lt, List, [], ◌∷◌, ◌++◌, length, length-append, get_or, slice_get, take, All, Option, Some, None, IsSome, is_some, ⊎_elim, ◌⊎◌, inl, inr}
+use Rattle.std.proofs.Common.{◌≡◌, refl, sym, ap, subst, ◌∙◌, ℕ, zero, suc, ◌-◌, ◌^◌, ◌<◌, ◌≤◌, arith, Bool, true, false, cond, ◌&&◌, nat_lt, List, [], ◌∷◌, ◌++◌, length, length-append, get_or, slice_get, take, Some, None, IsSome, ⊎_elim, ◌⊎◌, inl, inr}
 use Rattle.std.specs.List.{list_any}
 use Rattle.std.specs.List.Sorted.{IsNonDecreasingBy}
 use Rattle.std.specs.Ordering.{nat_cmp, is_eq, is_gt}
@@ -19,7 +19,7 @@ use Rattle.graphite_time.specs.Interval.{start_of, end_of}
 use Rattle.graphite_props.specs.declared.row.PropRow.{PropRow}
 use Rattle.graphite_props.specs.Store.{Place, place_eq}
 use Rattle.graphite_props.specs.Turn.{place_of, has_place}
-use Rattle.graphite_props.specs.Taken.{code_at, code_of, IsApart, is_met_by, AreRows, AreRising, IsTaken, IsLastUpTo, IsLow, IsOther, IsFound, AreAbove}
+use Rattle.graphite_props.specs.Taken.{code_at, code_of, is_met_by, AreRows, AreRising, IsTaken, IsLastUpTo, IsLow, IsOther, AreAbove}
 use Rattle.graphite_props.proofs.TimelineLemmas.{same_place}
 
 -- ---- codes

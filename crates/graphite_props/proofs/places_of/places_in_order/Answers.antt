@@ -1,10 +1,8 @@
-use Rattle.std.proofs.Common.{◌≡◌, ◌<◌, ◌+◌, ◌++◌, ◌∷◌, [], ℕ, sym, subst, take, get_or, length, ◌⊎◌, inl, inr, arith, ⊎_elim}
-use Rattle.std.proofs.lemmas.Bool.{cases_lt}
+use Rattle.std.proofs.Common.{◌≡◌, ◌<◌, ◌+◌, ◌++◌, ◌∷◌, [], sym, subst, take}
 use Rattle.std.proofs.lemmas.List.{take_more}
 use Rattle.graphite_props.specs.Store.{IsPainted}
 use Rattle.graphite_props.specs.Turn.{place_of}
 use Rattle.graphite_props.specs.Places.{timelines_in, AreTimelinesOf}
-use Rattle.graphite_props.specs.Taken.{ArePainted}
 use Rattle.graphite_props.proofs.PaintedLemmas.{painted-more, next_done}
 use Rattle.graphite_props.proofs.places_of.places_in_order.Goals as goal
 

@@ -1,4 +1,3 @@
-use Rattle.std.proofs.Common.{arith, IsSome}
 use Rattle.std.proofs.lemmas.Map.Keys.{le_from_not_gt, ge_from_not_lt}
 use Rattle.graphite_props.proofs.TakenLemmas.{last-in, none-in, not_gt}
 use Rattle.graphite_props.proofs.taken.last_in.Goals as goal

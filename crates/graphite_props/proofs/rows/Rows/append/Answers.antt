@@ -1,6 +1,6 @@
-use Rattle.std.proofs.Common.{◌∙◌, ◌≡◌, ◌<◌, ◌++◌, ◌∷◌, ◌^◌, [], ap, sym, subst, true, false, map, length, arith}
+use Rattle.std.proofs.Common.{◌∙◌, ◌≡◌, ◌<◌, ◌++◌, ◌∷◌, ◌^◌, [], ap, sym, subst, true, map, length, arith}
 use Rattle.std.specs.Str.{bytes_eq}
-use Rattle.std.specs.List.{position_or_len, list_any}
+use Rattle.std.specs.List.{position_or_len}
 use Rattle.std.proofs.lemmas.List.{length-map}
 use Rattle.graphite_text.specs.declared.limits.TheConstants.{PROPERTY_LIMIT}
 use Rattle.graphite_text.specs.Reading.{is_apart}
@@ -8,7 +8,7 @@ use Rattle.graphite_text.specs.Spans.{as_span}
 use Rattle.graphite_props.specs.declared.row.PropRow.{PropRow}
 use Rattle.graphite_props.specs.Properties.{keys_of, with_key, property}
 use Rattle.graphite_props.specs.Rows.{property_of, properties_of}
-use Rattle.graphite_props.specs.Taken.{IsFound, IsOther, is_met_by}
+use Rattle.graphite_props.specs.Taken.{IsFound, IsOther}
 use Rattle.graphite_props.proofs.StoreLemmas.{properties_of-push, pushed}
 use Rattle.graphite_props.proofs.RowsLemmas.{AreTaken-added, AreTaken-same, none-met-from_apart, other-from_none, number-most, numbered-range}
 use Rattle.graphite_props.proofs.rows.Rows.append.Goals as goal

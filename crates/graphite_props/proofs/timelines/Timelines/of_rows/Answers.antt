@@ -1,4 +1,4 @@
-use Rattle.std.proofs.Common.{map, subst, arith}
+use Rattle.std.proofs.Common.{map, subst}
 use Rattle.graphite_props.specs.Places.{timelines_in, AreTimelinesOf}
 use Rattle.graphite_props.specs.Taken.{ArePainted}
 use Rattle.graphite_props.proofs.PaintedLemmas.{AreTimelines-painted}
