@@ -14,3 +14,4 @@ pub mod CoverLemmas
 pub mod DepartureLemmas
 pub mod DegreeLemmas
 pub mod FactsLemmas
+pub mod OpenLemmas

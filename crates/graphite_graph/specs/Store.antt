@@ -3,7 +3,7 @@ use Rattle.std.specs.Prelude.{◌≡◌, ℕ, ◌<◌, ◌≤◌, List, [], ◌�
 use Rattle.graphite_time.specs.declared.interval.Interval.{Interval}
 use Rattle.graphite_time.specs.Life.{IsLife}
 use Rattle.graphite_text.specs.declared.limits.TheConstants.{VERTEX_LIMIT, EDGE_LIMIT}
-use Rattle.graphite_text.specs.Graph.{PlainVertex, PlainEdge, PlainProperty}
+use Rattle.graphite_text.specs.Graph.{PlainVertex, PlainEdge, PlainProperty, PlainGraph}
 use Rattle.graphite_graph.specs.declared.ends.Ends.{Ends}
 use Rattle.graphite_text.specs.Spans.{as_span}
 use Rattle.graphite_graph.specs.Life.{EndsBy}
@@ -21,6 +21,11 @@ edges_of (name ∷ names) [] lives = []
 edges_of (name ∷ names) (pair ∷ ends) [] = []
 edges_of (name ∷ names) (pair ∷ ends) (life ∷ lives) =
     record { name = name; from = pair.from; to = pair.to; life = map as_span life } ∷ edges_of names ends lives
+
+-- the graph with these properties in place of its own
+abbrev pub with_properties : PlainGraph → List PlainProperty → List PlainProperty → PlainGraph
+with_properties graph vertex_properties edge_properties =
+    record graph { vertex_properties = vertex_properties; edge_properties = edge_properties }
 
 -- both ends are numbers of vertices
 abbrev pub AreAmong : ℕ → Ends → Type 0

@@ -11,6 +11,7 @@ mod graph;
 mod hashed;
 mod names;
 mod numbered;
+mod open;
 mod reader;
 mod reading;
 mod show;

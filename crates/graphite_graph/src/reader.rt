@@ -17,7 +17,7 @@ ghost use Rattle.graphite_graph.specs.Step.{after_form, place_broken, owner_brok
 
 use crate::ends::Ends;
 use crate::fault::Fault;
-use crate::store::Store;
+use crate::open::Open;
 use graphite_text::{
     AFTER_END_RULE, DECLARED_RULE, EDGE_LIMIT, ENDS_RULE, HEADER_RULE, LIMIT_RULE, LINE_RULE, Line,
     NEW_NAME_RULE, ORDER_RULE, OVERLAP_RULE, OWNER_RULE, PROPERTY_LIMIT, Record, Span, TRAVEL_RULE,
@@ -33,7 +33,7 @@ pub(crate) struct Reader<'a> {
     alloc: Global,
     started: bool,
     ended: bool,
-    graph: Store<'a>,
+    graph: Open<'a>,
 }
 
 impl<'a> Model for Reader<'a> {
@@ -89,12 +89,12 @@ impl<'a> Reader<'a> {
             alloc,
             started: false,
             ended: false,
-            graph: Store::new(alloc, 0),
+            graph: Open::new(alloc, 0),
         }
     }
 
     /// The graph, once `end` was read.
-    pub(crate) fn finish(self) -> Option<Store<'a>>
+    pub(crate) fn finish(self) -> Option<Open<'a>>
         ensures { result ≡ (if self.entry.ended then Some self.entry.graph else None) }
     {
         let Reader { ended, graph, .. } = self;
@@ -311,7 +311,7 @@ impl<'a> Reader<'a> {
         ensures err { IfErr result (ExplainsRule (vertex_property_broken self.old v key.now (as_span over))) }
     {
         if self.is_full() {
-            let overlaps = self.graph.vertex_props().overlaps(v, key, over);
+            let overlaps = self.graph.vertex_rows().overlaps(v, key, over);
             return Err(Fault::Rule(overlap_rule_or(overlaps, LIMIT_RULE)));
         }
         self.graph.add_vertex_property(v, key, over, value)?;
@@ -375,7 +375,7 @@ impl<'a> Reader<'a> {
         ensures err { IfErr result (ExplainsRule (edge_property_broken self.old e key.now (as_span over) value)) }
     {
         if let Some(rule) = self.late_rule(key, value) {
-            let overlaps = self.graph.edge_props().overlaps(e, key, over);
+            let overlaps = self.graph.edge_rows().overlaps(e, key, over);
             return Err(Fault::Rule(overlap_rule_or(overlaps, rule)));
         }
         self.graph.add_edge_property(e, key, over, value)?;

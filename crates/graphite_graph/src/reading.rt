@@ -78,7 +78,10 @@ fn finished(reader: Reader<'_>, next: u32) -> Result<Store<'_>, LoadFault>
         → reading_from next reader.entry [] ≡ reading_from 1 nothing_known lines → ExplainsLines lines fault) }
 {
     match reader.finish() {
-        Some(store) => Ok(store),
+        Some(graph) => match graph.finish() {
+            Ok(store) => Ok(store),
+            Err(_) => Err(LoadFault::NoMemory),
+        },
         None => Err(LoadFault::Rule {
             line: next,
             rule: MISSING_END_RULE,

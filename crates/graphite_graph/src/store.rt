@@ -3,19 +3,17 @@ ghost use Rattle.std.specs.Prelude.{◌≡◌, ◌<◌, ◌≤◌, ℕ, [], Some
 ghost use Rattle.graphite_time.specs.declared.TheConstants.{LAST};
 ghost use Rattle.graphite_time.specs.Interval.{end_of};
 ghost use Rattle.graphite_time.specs.Life.{IsLife};
-ghost use Rattle.graphite_text.specs.declared.limits.TheConstants.{VERTEX_LIMIT, EDGE_LIMIT, PROPERTY_LIMIT};
+ghost use Rattle.graphite_text.specs.declared.limits.TheConstants.{VERTEX_LIMIT, EDGE_LIMIT};
 ghost use Rattle.graphite_text.specs.Graph.{is_alive, vertex_life, edge_life, vertex_number, edge_number, vertex_is_alive};
-ghost use Rattle.graphite_text.specs.Reading.{throughout, is_apart, property_count};
+ghost use Rattle.graphite_text.specs.Reading.{throughout};
 ghost use Rattle.graphite_text.specs.Spans.{as_span};
-ghost use Rattle.graphite_props.specs.declared.fault.AddFault.TheVariants.{Overlap};
-ghost use Rattle.graphite_props.specs.Properties.{property};
 ghost use Rattle.graphite_graph.specs.Life.{EndsBy};
-ghost use Rattle.graphite_graph.specs.Ends.{vertex_name, edge_name, edge_ends, lifespan_count, edge_lifespan_count, with_vertex, with_edge, with_vertex_property, with_edge_property};
-ghost use Rattle.graphite_graph.specs.Store.{AreAmong, AreOwned};
+ghost use Rattle.graphite_graph.specs.Ends.{vertex_name, edge_name, edge_ends, lifespan_count, edge_lifespan_count, with_vertex, with_edge};
+ghost use Rattle.graphite_graph.specs.Store.{with_properties, AreAmong, AreOwned};
 
 use crate::ends::Ends;
 use crate::names::Names;
-use graphite_props::{AddFault, PropRow, Timelines};
+use graphite_props::Timelines;
 use graphite_time::{Interval, Life, NoMemory};
 use std::alloc::Global;
 use std::marker::Model;
@@ -57,11 +55,6 @@ impl<'a> Model for Store<'a> {
         × AreOwned (length graph.edge_names) graph.edge_props };
 }
 
-/// The owner of the last row, or 0.
-fn last_owner(rows: &[PropRow]) -> u32 {
-    rows.last().map_or(0, |row| row.owner)
-}
-
 impl<'a> Store<'a> {
     /// The graph with no vertices.
     pub(crate) fn new(alloc: Global, horizon: u64) -> Store<'a>
@@ -99,6 +92,16 @@ impl<'a> Store<'a> {
         ensures { self.new ≡ record self.old { horizon = horizon } }
     {
         self.horizon = horizon;
+    }
+
+    /// Puts these properties in place of those that were there.
+    pub(crate) fn set_properties(&mut self, vertex_props: Timelines<'a>, edge_props: Timelines<'a>)
+        requires of_vertices { AreOwned (length self.old.vertices) vertex_props }
+        requires of_edges { AreOwned (length self.old.edges) edge_props }
+        ensures { self.new ≡ with_properties self.old vertex_props.entry edge_props.entry }
+    {
+        self.vertex_props = vertex_props;
+        self.edge_props = edge_props;
     }
 
     /// Adds a vertex with one lifespan, and answers `true`, where its name is new. Where it is not,
@@ -153,44 +156,6 @@ impl<'a> Store<'a> {
         Ok(added)
     }
 
-    /// Adds a property of a vertex. `Overlap` exactly where one of this vertex and key holds at an
-    /// instant of `over`. After a refusal nothing has changed.
-    pub(crate) fn add_vertex_property(
-        &mut self,
-        v: u32,
-        key: &'a [u8],
-        over: Interval,
-        value: u32,
-    ) -> Result<(), AddFault>
-        requires room { length self.old.vertex_properties < PROPERTY_LIMIT }
-        requires among { v < length self.old.vertices }
-        ensures overlap { result ≡ Err Overlap → is_apart self.old.vertex_properties v key.now (as_span over) ≡ false }
-        ensures apart { OnOk result (is_apart self.old.vertex_properties v key.now (as_span over) ≡ true) }
-        ensures ok { OnOk result (self.new ≡ with_vertex_property self.old (property v key.now over value)) }
-        ensures err { OnErr result (self.new ≡ self.old) }
-    {
-        self.vertex_props.add(v, key, over, value)
-    }
-
-    /// Adds a property of an edge. `Overlap` exactly where one of this edge and key holds at an
-    /// instant of `over`. After a refusal nothing has changed.
-    pub(crate) fn add_edge_property(
-        &mut self,
-        e: u32,
-        key: &'a [u8],
-        over: Interval,
-        value: u32,
-    ) -> Result<(), AddFault>
-        requires room { length self.old.edge_properties < PROPERTY_LIMIT }
-        requires among { e < length self.old.edges }
-        ensures overlap { result ≡ Err Overlap → is_apart self.old.edge_properties e key.now (as_span over) ≡ false }
-        ensures apart { OnOk result (is_apart self.old.edge_properties e key.now (as_span over) ≡ true) }
-        ensures ok { OnOk result (self.new ≡ with_edge_property self.old (property e key.now over value)) }
-        ensures err { OnErr result (self.new ≡ self.old) }
-    {
-        self.edge_props.add(e, key, over, value)
-    }
-
     /// Whether a vertex is alive at every instant of `over`.
     pub(crate) fn is_alive_throughout(&self, v: u32, over: Interval) -> bool
         requires { v < length self.now.vertices }
@@ -227,13 +192,6 @@ impl<'a> Store<'a> {
         ensures { result ≡ throughout (is_alive (edge_life self.now e)) (as_span over) }
     {
         self.edge_life(e).covers(over)
-    }
-
-    /// How many properties there are, of vertices and edges together.
-    pub(crate) fn properties(&self) -> usize
-        ensures { result ≡ property_count self.now }
-    {
-        self.vertex_props.rows().len() + self.edge_props.rows().len()
     }
 
     /// The instant after the last, at most [`graphite_time::LAST`]. No lifespan ends after it.
@@ -334,25 +292,22 @@ impl<'a> Store<'a> {
         self.edge_names.number_of(name)
     }
 
-    /// The number of the vertex with a name, as [`Store::find_vertex`] has it. Where that vertex has
-    /// the last property or follows the one that has it, nothing is searched: properties mostly come
-    /// in the order of their owners.
-    pub(crate) fn find_property_vertex(&self, name: &[u8]) -> Option<u32>
+    /// The number of the vertex with a name, as [`Store::find_vertex`] has it. Where it is `guess` or
+    /// the one after it, nothing is searched.
+    pub(crate) fn find_vertex_near(&self, name: &[u8], guess: u32) -> Option<u32>
         ensures number { result ≡ vertex_number self.now name.now }
         ensures in_range { IfSome result (λ v. v < length self.now.vertices) }
     {
-        self.vertex_names
-            .number_near(name, last_owner(self.vertex_props.rows()))
+        self.vertex_names.number_near(name, guess)
     }
 
-    /// The number of the edge with a name, as [`Store::find_edge`] has it. Where that edge has the
-    /// last property or follows the one that has it, nothing is searched.
-    pub(crate) fn find_property_edge(&self, name: &[u8]) -> Option<u32>
+    /// The number of the edge with a name, as [`Store::find_edge`] has it. Where it is `guess` or the
+    /// one after it, nothing is searched.
+    pub(crate) fn find_edge_near(&self, name: &[u8], guess: u32) -> Option<u32>
         ensures number { result ≡ edge_number self.now name.now }
         ensures in_range { IfSome result (λ e. e < length self.now.edges) }
     {
-        self.edge_names
-            .number_near(name, last_owner(self.edge_props.rows()))
+        self.edge_names.number_near(name, guess)
     }
 
     /// The properties of the vertices, which own them by number.

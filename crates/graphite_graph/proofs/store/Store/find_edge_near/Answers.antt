@@ -2,7 +2,7 @@ use Rattle.std.proofs.Common.{◌∙◌, ◌<◌, sym, ap, subst, length, positi
 use Rattle.std.specs.Str.{bytes_eq}
 use Rattle.graphite_text.specs.Graph.{edge_number}
 use Rattle.graphite_graph.proofs.StoreLemmas.{names-edges_of, length-edges_of}
-use Rattle.graphite_graph.proofs.store.Store.find_property_edge.Goals as goal
+use Rattle.graphite_graph.proofs.store.Store.find_edge_near.Goals as goal
 
 pub returns-clause-number : goal.returns-clause-number
 returns-clause-number c =
