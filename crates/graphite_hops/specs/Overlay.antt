@@ -1,4 +1,4 @@
--- Values that stand in place of others where there are some.
+-- For proofs and private functions alone: values that stand in place of others where there are some.
 use Rattle.std.specs.Prelude.{ℕ, ◌≤◌, List, take, length, Option, Some, None, option_map, unwrap_or, if◌then◌else◌}
 use Rattle.graphite_time.specs.declared.interval.Interval.{Interval}
 use Rattle.graphite_time.specs.Life.{is_held}

@@ -1,3 +1,5 @@
+//! Which way a program goes along the edges.
+
 /// Which way a program goes along the edges.
 #[derive(Clone, Copy, Debug, PartialEq, Eq)]
 pub enum Direction {

@@ -1,3 +1,4 @@
+//! The lives of the vertices.
 ghost use Rattle.std.specs.Prelude.{◌≡◌, ◌<◌, ◌^◌, length, map, IfOk};
 ghost use Rattle.graphite_text.specs.Spans.{as_span};
 

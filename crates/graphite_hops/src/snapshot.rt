@@ -1,3 +1,4 @@
+//! The table of arcs for programs of snapshots.
 ghost use Rattle.std.specs.Prelude.{◌≡◌, ℕ, All, map, IfOk};
 ghost use Rattle.std.specs.List.Sorted.{IsPermutation};
 ghost use Rattle.graphite_text.specs.Graph.{vertex_is_alive};

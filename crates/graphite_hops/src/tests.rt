@@ -1,6 +1,8 @@
+//! Small graphs as tables of arcs.
 use super::*;
 use graphite_api::{Arc, ArcTable};
 use graphite_graph::load;
+use std::alloc::Global;
 use std::process::Abort;
 use std::test::Fail;
 
@@ -51,19 +53,21 @@ fn assert_arcs(rt: &impl Abort, table: &ArcTable, rows: &[Row]) {
     }
 }
 
+fn table_of(alloc: Global, text: &[u8], direction: Direction) -> Result<ArcTable, Fail> {
+    let graph = load(alloc, text)?;
+    Ok(snapshot_arcs(alloc, &graph, direction)?)
+}
+
 #[test]
 fn edges_are_arcs(rt: HostRuntime) -> Result<(), Fail> {
-    let graph = load(rt.alloc(), three_stops())?;
-    let table = snapshot_arcs(rt.alloc(), &graph, Direction::Out)?;
-    assert_eq!(rt; table.vertices(), 3);
+    let table = table_of(rt.alloc(), three_stops(), Direction::Out)?;
     assert_arcs(&rt, &table, arcs_of_three_stops());
     Ok(())
 }
 
 #[test]
 fn edges_are_cut_where_time_or_cost_changes(rt: HostRuntime) -> Result<(), Fail> {
-    let graph = load(rt.alloc(), two_stops())?;
-    let table = snapshot_arcs(rt.alloc(), &graph, Direction::Both)?;
+    let table = table_of(rt.alloc(), two_stops(), Direction::Both)?;
     assert_arcs(&rt, &table, arcs_of_two_stops());
     Ok(())
 }

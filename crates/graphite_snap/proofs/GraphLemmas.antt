@@ -30,36 +30,8 @@ use Rattle.graphite_hops.specs.declared.direction.Direction.{Direction}
 use Rattle.graphite_hops.specs.Links.{links_at, links_in}
 use Rattle.graphite_loop.specs.Points.{initial_at, EndBy, IsPointRun}
 use Rattle.graphite_loop.specs.Progress.{AreInitial}
-use Rattle.graphite_snap.specs.Answers.{graph_at}
+use Rattle.graphite_snap.specs.Description.{graph_at}
 use Rattle.graphite_snap.proofs.SameLemmas.{AreAlike, run-same}
-
--- ---- ends of lives
-
-not_held : (spans : List Interval) (horizon t : ℕ) → EndsBy horizon spans → horizon ≤ t → is_held spans t ≡ false
-not_held [] horizon t ends late = refl
-not_held (span ∷ spans) horizon t ends late =
-    let first = ends 0 span (omega arith) in
-    ap (λ b. b || is_held spans t) (holds_after span t (omega (arith, first, late)))
-    ∙ not_held spans horizon t (λ k d within. ends (suc k) d (omega (arith, within))) late
-
-pub ends_more : (graph : PlainGraph) (v : ℕ) (life : List Interval) → map as_span life ≡ vertex_life graph v → EndsBy graph.horizon life
-    → ((w t : ℕ) → w < v → graph.horizon ≤ t → vertex_is_alive graph w t ≡ false)
-    → (w t : ℕ) → w < v + 1 → graph.horizon ≤ t → vertex_is_alive graph w t ≡ false
-ends_more graph v life is ends before w t within late =
-    ⊎_elim (λ (early : w < v). before w t early late)
-    (λ (ge : v ≤ w).
-    let same : v ≡ w = omega (arith, ge, within) in
-    subst (λ u. vertex_is_alive graph u t ≡ false) same
-    (ap (λ spans. is_alive spans t) (sym is) ∙ is_alive-as_span life t ∙ not_held life graph.horizon t ends late))
-    (cases_lt w v)
-
--- ---- orders
-
-pub total_as : {X : Type 0} (order order' : X → X → Ordering) → ((x y : X) → order x y ≡ order' x y) → IsTotalOrder order → IsTotalOrder order'
-total_as order order' same total = subst IsTotalOrder (fun_ext (λ x. fun_ext (λ y. same x y))) total
-
-pub exact_as : {X : Type 0} (order order' : X → X → Ordering) → ((x y : X) → order x y ≡ order' x y) → IsExact order → IsExact order'
-exact_as order order' same exact = subst IsExact (fun_ext (λ x. fun_ext (λ y. same x y))) exact
 
 -- ---- the starts
 

@@ -14,7 +14,8 @@ use Rattle.graphite_warp.proofs.SortedLemmas.{times, sorted_same}
 use Rattle.graphite_api.specs.declared.next.Next.{Next}
 use Rattle.graphite_api.specs.Plan.{Plan}
 use Rattle.graphite_api.specs.Snapshot.{Link, Snapshot}
-use Rattle.graphite_api.specs.Supersteps.{note_along, notes_to, group_of, idle, left_with, superstep, after, state_after, sends, sends_in, group_in, input_of, input_in}
+use Rattle.graphite_api.specs.Rules.{point_rules, idle, outcome_at, state_of, input_of}
+use Rattle.graphite_api.specs.Supersteps.{note_along, notes_to, group_of, no_groups, groups_on, after, state_after, sends, sends_in, group_in, input_in}
 use Rattle.graphite_api.specs.Calls.{is_quiet, supersteps_made, same_input, calls_in, calls_made}
 use Rattle.graphite_loop.specs.Points.{IsPointRun}
 
@@ -26,52 +27,56 @@ pub record AreAlike {S : Type 0} (old new : Snapshot S) : Type 0 where
 module _ {S M : Type 0} (plan : Plan S M) (total : IsTotalOrder plan.order) (exact : IsExact plan.order) where
   -- how often a note comes along one link to v
   abbrev brings : M → (ℕ → Option (Next S)) → ℕ → Link → ℕ
-  brings note left v link = times plan.order total note (notes_to plan (link ∷ []) left v)
+  brings note outcomes v link = times plan.order total note (notes_to plan (link ∷ []) outcomes v)
 
   times-more : (note : M) (o : Option M) (notes : List M) → times plan.order total note (Rattle.std.specs.List.cons_option o notes) ≡ times plan.order total note (Rattle.std.specs.List.cons_option o []) + times plan.order total note notes
   times-more note None notes = omega arith
   times-more note (Some other) notes = omega arith
 
-  brings-more : (note : M) (left : ℕ → Option (Next S)) (v : ℕ) (link : Link) (links : List Link) → times plan.order total note (notes_to plan (link ∷ links) left v) ≡ brings note left v link + times plan.order total note (notes_to plan links left v)
-  brings-more note left v link links = by (link.to == v)
+  brings-more : (note : M) (outcomes : ℕ → Option (Next S)) (v : ℕ) (link : Link) (links : List Link) → times plan.order total note (notes_to plan (link ∷ links) outcomes v) ≡ brings note outcomes v link + times plan.order total note (notes_to plan links outcomes v)
+  brings-more note outcomes v link links = by (link.to == v)
     where
-      by : (b : Bool) → times plan.order total note (filter_map (λ link. note_along plan (left link.from) link) (cond b (link ∷ filter (λ link. link.to == v) links) (filter (λ link. link.to == v) links)))
-          ≡ times plan.order total note (filter_map (λ link. note_along plan (left link.from) link) (cond b (link ∷ []) [])) + times plan.order total note (notes_to plan links left v)
-      by true = times-more note (note_along plan (left link.from) link) (notes_to plan links left v)
+      by : (b : Bool) → times plan.order total note (filter_map (λ link. note_along plan (outcomes link.from) link) (cond b (link ∷ filter (λ link. link.to == v) links) (filter (λ link. link.to == v) links)))
+          ≡ times plan.order total note (filter_map (λ link. note_along plan (outcomes link.from) link) (cond b (link ∷ []) [])) + times plan.order total note (notes_to plan links outcomes v)
+      by true = times-more note (note_along plan (outcomes link.from) link) (notes_to plan links outcomes v)
       by false = omega arith
 
   -- the group of v is the same for the links in any order
-  group_of-moved : (old new : List Link) (left : ℕ → Option (Next S)) (v : ℕ) → IsPermutation old new → group_of plan old left v ≡ group_of plan new left v
-  group_of-moved old new left v moved =
-      sorted_same plan.order total exact (notes_to plan old left v) (notes_to plan new left v) (λ note.
-      is_sum_by (λ links. times plan.order total note (notes_to plan links left v)) (brings note left v) refl (brings-more note left v) old
-      ∙ sym (sum_by-IsPermutation (brings note left v) old new moved)
-      ∙ sym (is_sum_by (λ links. times plan.order total note (notes_to plan links left v)) (brings note left v) refl (brings-more note left v) new))
+  group_of-moved : (old new : List Link) (outcomes : ℕ → Option (Next S)) (v : ℕ) → IsPermutation old new → group_of plan old outcomes v ≡ group_of plan new outcomes v
+  group_of-moved old new outcomes v moved =
+      sorted_same plan.order total exact (notes_to plan old outcomes v) (notes_to plan new outcomes v) (λ note.
+      is_sum_by (λ links. times plan.order total note (notes_to plan links outcomes v)) (brings note outcomes v) refl (brings-more note outcomes v) old
+      ∙ sym (sum_by-IsPermutation (brings note outcomes v) old new moved)
+      ∙ sym (is_sum_by (λ links. times plan.order total note (notes_to plan links outcomes v)) (brings note outcomes v) refl (brings-more note outcomes v) new))
 
   module _ (old new : Snapshot S) (alike : AreAlike old new) where
+    groups_on-same : (k : ℕ) → ((v : ℕ) → after plan old k v ≡ after plan new k v) → (v : ℕ) → groups_on plan old.links no_groups k (after plan old k) v ≡ groups_on plan new.links no_groups k (after plan new k) v
+    groups_on-same zero same v = refl
+    groups_on-same (suc k) same v =
+        group_of-moved old.links new.links (after plan old (suc k)) v alike.links
+        ∙ ap (λ outcomes. group_of plan new.links outcomes v) (fun_ext same)
+
     pub after-same : (k v : ℕ) → after plan old k v ≡ after plan new k v
     after-same zero v = ap (option_map idle) (alike.starts v)
     after-same (suc k) v =
-        ap (λ group. option_map (λ own. left_with plan (suc k) own.state group) (after plan old k v)) (group_of-moved old.links new.links (after plan old k) v alike.links)
-        ∙ ap (λ left. superstep plan new.links (suc k) left v) (fun_ext (after-same k))
+        ap (outcome_at (point_rules plan) (suc k) (state_of (after plan old k v))) (groups_on-same k (after-same k) v)
+        ∙ ap (λ own. outcome_at (point_rules plan) (suc k) (state_of own) (groups_on plan new.links no_groups k (after plan new k) v)) (after-same k v)
 
     pub state_after-same : (k v : ℕ) → state_after plan old k v ≡ state_after plan new k v
-    state_after-same k v = ap (option_map (λ own. own.state)) (after-same k v)
+    state_after-same k v = ap state_of (after-same k v)
 
     pub sends_in-same : (k v : ℕ) → sends_in plan old k v ≡ sends_in plan new k v
     sends_in-same k v = ap sends (after-same k v)
 
     pub group_in-same : (k v : ℕ) → group_in plan old k v ≡ group_in plan new k v
     group_in-same zero v = refl
-    group_in-same (suc k) v =
-        group_of-moved old.links new.links (after plan old k) v alike.links
-        ∙ ap (λ left. group_of plan new.links left v) (fun_ext (after-same k))
+    group_in-same (suc k) v = groups_on-same k (after-same k) v
 
     pub input_in-same : (k v : ℕ) → input_in plan old k v ≡ input_in plan new k v
     input_in-same zero v = refl
     input_in-same (suc k) v =
-        ap (λ state. input_of plan (suc k) state (group_in plan old (suc k) v)) (state_after-same k v)
-        ∙ ap (input_of plan (suc k) (state_after plan new k v)) (group_in-same (suc k) v)
+        ap (λ state. input_of (point_rules plan) (suc k) state (group_in plan old (suc k) v)) (state_after-same k v)
+        ∙ ap (input_of (point_rules plan) (suc k) (state_after plan new k v)) (group_in-same (suc k) v)
 
   -- the same at every instant
   module _ (old new : ℕ → Snapshot S) (alike : (t : ℕ) → AreAlike (old t) (new t)) (vertices horizon : ℕ) where

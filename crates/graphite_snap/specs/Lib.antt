@@ -1,3 +1,5 @@
-pub mod Bfs
 pub mod Least
+pub mod Description
+pub mod Degree
+pub mod Bfs
 pub mod Answers

@@ -1,9 +1,13 @@
-ghost use Rattle.std.specs.Prelude.{◌≡◌, false, option_map, refl};
-ghost use Rattle.graphite_api.specs.Plan.{message_over};
-ghost use Rattle.graphite_snap.specs.Bfs.{bfs_next, bfs_note, bfs_plan};
+//! Breadth-first search.
+ghost use Rattle.std.specs.Prelude.{◌≡◌, false, refl};
+ghost use Rattle.graphite_api.specs.Rules.{point_rules};
+ghost use Rattle.graphite_snap.specs.Bfs.{bfs, bfs_next, bfs_plan};
 
+use crate::described::SnapProgram;
 use crate::least::least;
 use graphite_api::{Arc, Message, Next, PointProgram, Program};
+use graphite_graph::{Ask, Facts};
+use graphite_hops::Direction;
 use graphite_time::Interval;
 use std::marker::Model;
 
@@ -42,9 +46,7 @@ impl Program for Bfs {
 
     ghost ALWAYS = { false };
 
-    ghost next_of = { bfs_next };
-
-    ghost message_of = { λ state arc over. option_map (message_over over) (bfs_note state arc.time arc.cost) };
+    ghost rules = { point_rules bfs_plan };
 
     ghost count = { λ calls. calls };
 
@@ -64,21 +66,55 @@ impl Program for Bfs {
             note: distance.saturating_add(1),
         })
     }
+
+    ghost order_is = { refl };
+
+    ghost always_is = { refl };
 }
 
 impl PointProgram for Bfs {
     ghost plan = { bfs_plan };
 
-    ghost next_is = { λ k state group. refl };
-
-    ghost message_is = { λ state arc over. refl };
-
-    ghost order_is = { λ x y. refl };
-
-    ghost always_is = { refl };
+    ghost rules_are = { refl };
 }
 
-/// What a vertex is left with.
+/// A search from the vertex with this number.
+#[derive(Clone, Copy, Debug, PartialEq, Eq)]
+pub(crate) struct Search {
+    pub source: u32,
+}
+
+impl SnapProgram for Search {
+    type Program = Bfs;
+
+    ghost description = { λ search. bfs search.source };
+
+    fn program(&self) -> Bfs {
+        Bfs::new()
+    }
+
+    fn ask(&self) -> Ask {
+        Ask { outdegree: false }
+    }
+
+    fn direction(&self) -> Direction {
+        Direction::Out
+    }
+
+    fn start(&self, facts: Facts) -> Option<u32> {
+        (facts.vertex == self.source).then_some(0)
+    }
+
+    fn printed(&self, state: Option<u32>) -> Option<u64> {
+        state.map(u64::from)
+    }
+
+    ghost plan_is = { λ described. refl };
+
+    ghost states_are = { λ described x y. refl };
+}
+
+/// What a vertex has after a superstep.
 fn next(step: u32, state: Option<u32>, group: &[u32]) -> Next<Option<u32>>
     ensures { result ≡ bfs_next step state group.now }
 {

@@ -1,3 +1,4 @@
+//! The least of some notes.
 ghost use Rattle.std.specs.Prelude.{◌≡◌};
 ghost use Rattle.graphite_snap.specs.Least.{least};
 

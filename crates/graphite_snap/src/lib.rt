@@ -2,6 +2,8 @@
 #![tactic(auto)]
 
 mod bfs;
+mod degree;
+mod described;
 mod least;
 mod map;
 mod program;

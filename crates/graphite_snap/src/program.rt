@@ -1,11 +1,11 @@
 //! A program of snapshots on a graph.
-ghost use Rattle.std.specs.Prelude.{◌≡◌, ◌<◌, ◌≤◌, ℕ, false, length, IfOk};
+ghost use Rattle.std.specs.Prelude.{◌≡◌, ◌≤◌, ℕ, length, IfOk};
 ghost use Rattle.std.specs.Option.{ForSome};
-ghost use Rattle.graphite_text.specs.Graph.{vertex_is_alive};
 ghost use Rattle.graphite_graph.specs.declared.facts.Facts.{Facts};
 ghost use Rattle.graphite_graph.specs.Facts.{facts_at};
 ghost use Rattle.graphite_loop.specs.Points.{IsPointRun};
-ghost use Rattle.graphite_snap.specs.Answers.{graph_at};
+ghost use Rattle.graphite_api.specs.declared.TheConstants.{STEP_LIMIT};
+ghost use Rattle.graphite_snap.specs.Description.{graph_at};
 
 use crate::start::point_start;
 use graphite_api::PointProgram;
@@ -17,7 +17,7 @@ use graphite_time::NoMemory;
 use std::alloc::Global;
 
 /// Runs a program of snapshots that goes this way along the edges of a graph, with at most `steps`
-/// supersteps, of which there are 1 to 2,097,152. Each vertex starts with what `init` makes of its
+/// supersteps, of which there are 1 to [`graphite_api::STEP_LIMIT`]. Each vertex starts with what `init` makes of its
 /// facts, and the program's count of calls is 0.
 pub(crate) fn run_program<P: PointProgram, F: Fn(Facts) -> P::State>(
     alloc: Global,
@@ -30,7 +30,7 @@ pub(crate) fn run_program<P: PointProgram, F: Fn(Facts) -> P::State>(
 ) -> Result<Ran<P::State>, NoMemory>
     requires callable { (v t : ℕ) → ForSome (facts_at graph.now ask.now v t) (F.pre init.now) }
     requires some { 1 ≤ steps }
-    requires few { steps ≤ 2097152 }
+    requires few { steps ≤ STEP_LIMIT }
     requires fresh { P.count program.old ≡ 0 }
     ensures { IfOk result (λ ran. (start : Facts → P.State)
         → ((v t : ℕ) → ForSome (facts_at graph.now ask.now v t)
@@ -41,16 +41,7 @@ pub(crate) fn run_program<P: PointProgram, F: Fn(Facts) -> P::State>(
 {
     let table = snapshot_arcs(alloc, graph, direction)?;
     let start = point_start(alloc, graph, ask, init)?;
-    see_ends(graph);
+    // nothing lives from the horizon on, so no superstep is looked for there
+    let _horizon = graph.horizon();
     run_points(alloc, &table, start, program, steps)
-}
-
-/// Shows what every graph keeps: no vertex lives at its horizon or after it.
-fn see_ends(graph: &Graph<'_>)
-    ensures { (v t : ℕ) → v < length graph.now.vertices → graph.now.horizon ≤ t
-        → vertex_is_alive graph.now v t ≡ false }
-{
-    for v in 0..graph.vertices() {
-        let _life = graph.vertex_life(v);
-    }
 }

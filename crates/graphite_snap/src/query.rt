@@ -1,3 +1,5 @@
+//! The queries of programs of snapshots.
+
 /// A program of snapshots, with what it asks for.
 #[derive(Clone, Copy, Debug, PartialEq, Eq)]
 pub enum SnapQuery {

@@ -1,3 +1,4 @@
+//! The states that a program of snapshots starts with.
 ghost use Rattle.std.specs.Prelude.{◌≡◌, ◌<◌, ℕ, length, vec_len, slice_index_or, [], IfOk};
 ghost use Rattle.std.specs.Option.{ForSome};
 ghost use Rattle.graphite_graph.specs.Facts.{facts_at, AreMadeOf};
@@ -11,7 +12,7 @@ use std::alloc::Global;
 /// program of snapshots starts with. `init` may be called on the facts of every vertex at every
 /// instant of its life.
 pub fn point_start<S: Plain, F: Fn(Facts) -> S>(
-    alloc: Global,
+    _alloc: Global,
     graph: &Graph<'_>,
     ask: &Ask,
     init: &F,
@@ -21,5 +22,5 @@ pub fn point_start<S: Plain, F: Fn(Facts) -> S>(
     ensures start { IfOk result (λ start. (v : ℕ) → v < length graph.now.vertices
         → AreMadeOf (F.post init.now) (facts_at graph.now ask.now v) (slice_index_or start.items v [])) }
 {
-    graph.map_facts(alloc, ask, init)
+    graph.map_facts(ask, init)
 }

@@ -1,5 +1,5 @@
 -- The lines of a report: those of a vertex are its maximal runs, and those of all make the report.
-use Rattle.std.proofs.Common.{◌≡◌, ℕ, zero, suc, ◌+◌, ◌<◌, ◌≤◌, false, ◌||◌, List, [], ◌∷◌, ◌++◌, length, map, drop, flat_map, Option, Some, None, option_map, refl, sym, ap, ◌∙◌, arith, eqb-true, get_or}
+use Rattle.std.proofs.Common.{◌≡◌, ℕ, ◌+◌, ◌<◌, ◌≤◌, false, ◌||◌, List, [], ◌∷◌, ◌++◌, length, map, drop, flat_map, Option, Some, None, option_map, refl, sym, ap, ◌∙◌, arith, eqb-true, get_or}
 use Rattle.std.specs.Prelude.{slice_get, slice_index_or, codes}
 use mathlib.Core.Path.{fun_ext}
 use Rattle.std.proofs.lemmas.Bool.{eq-eqb}
@@ -14,58 +14,22 @@ use Rattle.graphite_text.specs.Graph.{PlainVertex, PlainGraph, is_alive, vertex_
 use Rattle.graphite_text.specs.Spans.{as_span}
 use Rattle.graphite_graph.specs.Ends.{vertex_name}
 use Rattle.graphite_graph.specs.Life.{EndsBy}
+use Rattle.graphite_graph.proofs.LifeLemmas.{is_alive-as_span}
 use Rattle.graphite_part.specs.declared.piece.Piece.{Piece}
 use Rattle.graphite_part.specs.Pieces.{AreRuns, IsChain, value_at, run_of}
 use Rattle.graphite_part.specs.Runs.{TellsApart}
 use Rattle.graphite_part.proofs.PiecesLemmas.{runs_of-pieces}
-use Rattle.graphite_api.specs.Plan.{Plan}
-use Rattle.graphite_api.specs.Snapshot.{Snapshot}
-use Rattle.graphite_api.specs.Supersteps.{after}
 use Rattle.graphite_report.specs.Report.{Values, same_value, run_line, vertex_lines, lines_of_vertices, first_line, intervals_report}
-use Rattle.graphite_snap.specs.declared.query.SnapQuery.{SnapQuery}
-use Rattle.graphite_snap.specs.declared.query.SnapQuery.TheVariants.{Degree, Bfs}
-use Rattle.graphite_snap.specs.Bfs.{bfs_plan}
-use Rattle.graphite_snap.specs.Answers.{printed_at, made_of, calls_of, bfs_at, IsSnapAnswer}
+use Rattle.graphite_snap.specs.Description.{Meaning}
+use Rattle.graphite_snap.specs.Answers.{IsAnswer}
 use Rattle.graphite_top.specs.Lines.{values_in, lines_from, AreOfVertices}
 use Rattle.graphite_top.specs.Output.{snap_heading, snap_report}
 
--- ---- what is printed of a vertex that is not alive
-
--- a vertex that does not start is left with nothing
-after-none : {S M : Type 0} (plan : Plan S M) (snapshot : Snapshot S) (k v : ℕ) → snapshot.start v ≡ None → after plan snapshot k v ≡ None
-after-none plan snapshot zero v none = rw none refl
-after-none plan snapshot (suc k) v none = rw (after-none plan snapshot k v none) refl
-
-printed-none : (graph : PlainGraph) (query : SnapQuery) (steps v t : ℕ) → vertex_is_alive graph v t ≡ false → printed_at graph query steps v t ≡ None
-printed-none graph Degree steps v t dead = rw dead refl
-printed-none graph (Bfs source) steps v t dead =
-    ap (option_map (λ own. own.state)) (after-none bfs_plan (bfs_at graph source t) steps v (rw dead refl))
-
 -- the answer has pieces for each vertex
-pub of_vertices : (graph : PlainGraph) (query : SnapQuery) (steps : ℕ) (all : List (List (Piece (Option ℕ)))) (made calls : ℕ) → IsSnapAnswer graph query steps all made calls → AreOfVertices graph all
-of_vertices graph query steps all made calls answer = record {
-  len = answer.values_len;
-  alive = λ v t within dead. (answer.values_are v within).values t ∙ printed-none graph query steps v t dead;
-}
+pub of_vertices : (graph : PlainGraph) (program : Meaning) (steps : ℕ) (all : List (List (Piece (Option ℕ)))) (made calls : ℕ) → IsAnswer program graph steps all made calls → AreOfVertices graph all
+of_vertices graph program steps all made calls answer = record { len = answer.values_len; alive = answer.alive }
 
 -- ---- the lines of one vertex
-
-is_alive-spans : (spans : List Interval) (t : ℕ) → is_alive (map as_span spans) t ≡ is_held spans t
-is_alive-spans [] t = refl
-is_alive-spans (span ∷ spans) t = ap (λ b. holds span t || b) (is_alive-spans spans t)
-
--- a life that ends by the horizon holds no instant from it on
-held_beyond : (horizon : ℕ) (life : List Interval) (t : ℕ) → EndsBy horizon life → horizon ≤ t → is_held life t ≡ false
-held_beyond horizon [] t ends h = refl
-held_beyond horizon (over ∷ life) t ends h =
-    let first : end_of over ≤ horizon = All-head (λ over. end_of over ≤ horizon) over life ends in
-    let past : end_of over ≤ t = omega arith in
-    ap (λ b. b || is_held life t) (holds_after over t past) ∙ held_beyond horizon life t (All-tail (λ over. end_of over ≤ horizon) over life ends) h
-
--- so a vertex with that life is not alive then
-pub dead_beyond : (graph : PlainGraph) (v : ℕ) (life : List Interval) (t : ℕ) → map as_span life ≡ vertex_life graph v → EndsBy graph.horizon life → graph.horizon ≤ t → vertex_is_alive graph v t ≡ false
-dead_beyond graph v life t same ends h =
-    ap (λ l. is_alive l t) (sym same) ∙ is_alive-spans life t ∙ held_beyond graph.horizon life t ends h
 
 -- the pieces of a vertex are the runs of what is printed of it
 pub runs_in : (all : List (List (Piece (Option ℕ)))) (v : ℕ) (pieces : List (Piece (Option ℕ))) → v < length all → pieces ≡ get_or all v pieces → IsChain pieces → AreRuns (values_in all v) pieces
@@ -119,15 +83,15 @@ same_lines f g horizon n (vertex ∷ vertices) same =
     ∙ ap (λ xs. vertex_lines vertex.name (g n) horizon ++ xs) (same_lines f g horizon (n + 1) vertices (λ v h. same v (omega arith)))
 
 -- a first line, the lines of the answer and the end are the report
-pub report_from : (graph : PlainGraph) (query : SnapQuery) (steps : ℕ) (all : List (List (Piece (Option ℕ)))) (made calls : ℕ) (first : List ℕ) → IsSnapAnswer graph query steps all made calls → first ≡ first_line (snap_heading query made calls)
-    → (first ++ lines_from graph (values_in all) 0) ++ codes "end\n" ≡ snap_report graph query steps
+pub report_from : (graph : PlainGraph) (word : List ℕ) (program : Meaning) (steps : ℕ) (all : List (List (Piece (Option ℕ)))) (made calls : ℕ) (first : List ℕ) → IsAnswer program graph steps all made calls → first ≡ first_line (snap_heading word made calls)
+    → (first ++ lines_from graph (values_in all) 0) ++ codes "end\n" ≡ snap_report graph word program steps
 unfolding lines_from intervals_report
-report_from graph query steps all made calls first answer is =
-    let same : (v : ℕ) → v < 0 + length graph.vertices → values_in all v ≡ printed_at graph query steps v =
+report_from graph word program steps all made calls first answer is =
+    let same : (v : ℕ) → v < 0 + length graph.vertices → values_in all v ≡ program.printed_at graph steps v =
     λ v h. fun_ext ((answer.values_are v (omega arith)).values)
     in
-    let heading : first ≡ first_line (snap_heading query (made_of graph query steps) (calls_of graph query steps)) =
-    is ∙ ap (λ m. first_line (snap_heading query m calls)) answer.made_is ∙ ap (λ n. first_line (snap_heading query (made_of graph query steps) n)) answer.calls_are
+    let heading : first ≡ first_line (snap_heading word (program.made graph steps) (program.calls graph steps)) =
+    is ∙ ap (λ m. first_line (snap_heading word m calls)) answer.made_is ∙ ap (λ n. first_line (snap_heading word (program.made graph steps) n)) answer.calls_are
     in
     ap (λ xs. (xs ++ lines_of_vertices (values_in all) graph.horizon 0 graph.vertices) ++ codes "end\n") heading
-    ∙ ap (λ xs. (first_line (snap_heading query (made_of graph query steps) (calls_of graph query steps)) ++ xs) ++ codes "end\n") (same_lines (values_in all) (printed_at graph query steps) graph.horizon 0 graph.vertices same)
+    ∙ ap (λ xs. (first_line (snap_heading word (program.made graph steps) (program.calls graph steps)) ++ xs) ++ codes "end\n") (same_lines (values_in all) (program.printed_at graph steps) graph.horizon 0 graph.vertices same)

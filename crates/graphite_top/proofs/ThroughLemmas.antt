@@ -4,7 +4,7 @@ use Rattle.std.specs.Io.KnownBytes.{Appends}
 use Rattle.std.proofs.KnownBytes.{Appends-trans}
 use Rattle.std.proofs.lemmas.List.{take_at, take-append-drop}
 use Rattle.graphite_base.specs.Known.{AppendsPart}
-use Rattle.graphite_top.specs.Call.{AppendsFront}
+use Rattle.graphite_top.specs.Call.{AppendsPrefix}
 use Rattle.graphite_top.specs.Through.{Through}
 use Rattle.graphite_top.specs.Report.{Sends}
 
@@ -16,7 +16,7 @@ Appends-none (Some xs) = sym (append-nil xs)
 pub Through-start : (old : Option (List ℕ)) (buffer rest : List ℕ) → Through old old buffer rest (buffer ++ rest)
 Through-start old buffer rest = ([], Appends-none old, refl)
 
--- the buffer takes the front of what is to come
+-- the buffer takes a prefix of what is to come
 pub Through-push : (old new : Option (List ℕ)) (buffer rest buffer' rest' text : List ℕ) → buffer' ++ rest' ≡ buffer ++ rest → Through old new buffer rest text → Through old new buffer' rest' text
 Through-push old new buffer rest buffer' rest' text more (sent, appends, whole) =
     (sent, appends, append_assoc sent buffer' rest' ∙ ap (λ xs. sent ++ xs) more ∙ sym (append_assoc sent buffer rest) ∙ whole)
@@ -26,25 +26,25 @@ pub Through-send : (old new next : Option (List ℕ)) (buffer buffer' rest text 
 Through-send old new next buffer buffer' rest text (more, appended, split) (sent, appends, whole) =
     (sent ++ more, Appends-trans old new next sent more appends appended, ap (λ xs. xs ++ rest) (append_assoc sent more buffer' ∙ ap (λ xs. sent ++ xs) split) ∙ whole)
 
-front_of : (old new : Option (List ℕ)) (front rest text : List ℕ) → front ++ rest ≡ text → Appends old new front → AppendsFront old new text
-front_of old new front rest text whole appends =
-    (length front, subst (Appends old new) (sym (ap (take (length front)) (sym whole) ∙ take_at front rest (length front) refl)) appends)
+prefix_of : (old new : Option (List ℕ)) (prefix rest text : List ℕ) → prefix ++ rest ≡ text → Appends old new prefix → AppendsPrefix old new text
+prefix_of old new prefix rest text whole appends =
+    (length prefix, subst (Appends old new) (sym (ap (take (length prefix)) (sym whole) ∙ take_at prefix rest (length prefix) refl)) appends)
 
--- what was sent at any moment is a front of the text
-pub AppendsFront-through : (old new : Option (List ℕ)) (buffer rest text : List ℕ) → Through old new buffer rest text → AppendsFront old new text
-AppendsFront-through old new buffer rest text (sent, appends, whole) =
-    front_of old new sent (buffer ++ rest) text (sym (append_assoc sent buffer rest) ∙ whole) appends
+-- what was sent at any moment is a prefix of the text
+pub AppendsPrefix-through : (old new : Option (List ℕ)) (buffer rest text : List ℕ) → Through old new buffer rest text → AppendsPrefix old new text
+AppendsPrefix-through old new buffer rest text (sent, appends, whole) =
+    prefix_of old new sent (buffer ++ rest) text (sym (append_assoc sent buffer rest) ∙ whole) appends
 
 -- so it is where the sink took a part of the buffer and failed
-pub AppendsFront-part : (old new next : Option (List ℕ)) (buffer rest text : List ℕ) → AppendsPart new next buffer → Through old new buffer rest text → AppendsFront old next text
-AppendsFront-part old new next buffer rest text (n, short, part) (sent, appends, whole) =
+pub AppendsPrefix-part : (old new next : Option (List ℕ)) (buffer rest text : List ℕ) → AppendsPart new next buffer → Through old new buffer rest text → AppendsPrefix old next text
+AppendsPrefix-part old new next buffer rest text (n, short, part) (sent, appends, whole) =
     let parts : take n buffer ++ drop n buffer ≡ buffer = take-append-drop n buffer in
     let all : (sent ++ take n buffer) ++ (drop n buffer ++ rest) ≡ text =
     append_assoc sent (take n buffer) (drop n buffer ++ rest)
     ∙ ap (λ xs. sent ++ xs) (sym (append_assoc (take n buffer) (drop n buffer) rest) ∙ ap (λ xs. xs ++ rest) parts)
     ∙ sym (append_assoc sent buffer rest) ∙ whole
     in
-    front_of old next (sent ++ take n buffer) (drop n buffer ++ rest) text all (Appends-trans old new next sent (take n buffer) appends part)
+    prefix_of old next (sent ++ take n buffer) (drop n buffer ++ rest) text all (Appends-trans old new next sent (take n buffer) appends part)
 
 -- the whole text was sent where the buffer holds nothing and nothing is to come
 pub Appends-through : (old new : Option (List ℕ)) (text : List ℕ) → Through old new [] [] text → Appends old new text
@@ -61,10 +61,10 @@ pub Through-append : (old new : Option (List ℕ)) (buffer text more : List ℕ)
 Through-append old new buffer text more (sent, appends, whole) =
     (sent, appends, append-nil (sent ++ (buffer ++ more)) ∙ sym (append_assoc sent buffer more) ∙ ap (λ xs. xs ++ more) (sym (append-nil (sent ++ buffer)) ∙ whole))
 
--- a front of a text is a front of a longer one
-pub AppendsFront-more : (old new : Option (List ℕ)) (text more : List ℕ) → AppendsFront old new text → AppendsFront old new (text ++ more)
-AppendsFront-more old new text more (n, appends) =
-    front_of old new (take n text) (drop n text ++ more) (text ++ more) (sym (append_assoc (take n text) (drop n text) more) ∙ ap (λ xs. xs ++ more) (take-append-drop n text)) appends
+-- a prefix of a text is a prefix of a longer one
+pub AppendsPrefix-more : (old new : Option (List ℕ)) (text more : List ℕ) → AppendsPrefix old new text → AppendsPrefix old new (text ++ more)
+AppendsPrefix-more old new text more (n, appends) =
+    prefix_of old new (take n text) (drop n text ++ more) (text ++ more) (sym (append_assoc (take n text) (drop n text) more) ∙ ap (λ xs. xs ++ more) (take-append-drop n text)) appends
 
 -- the last bytes of the text are in the buffer
 pub Through-end : (old new : Option (List ℕ)) (buffer buffer' text more whole : List ℕ) → text ++ more ≡ whole → buffer' ≡ buffer ++ more → Through old new buffer [] text → Through old new buffer' [] whole

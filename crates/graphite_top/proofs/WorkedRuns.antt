@@ -8,7 +8,8 @@ use Rattle.graphite_text.specs.Canonical.{canonical_text}
 use Rattle.graphite_api.specs.Calls.{is_quiet, supersteps_made, calls_in, calls_made}
 use Rattle.graphite_report.specs.Report.{vertex_lines, intervals_report}
 use Rattle.graphite_top.specs.declared.status.Status.TheVariants.{Done, TextRefused, QueryRefused}
-use Rattle.graphite_top.specs.Words.{Degree, Bfs, query_of}
+use Rattle.graphite_top.specs.declared.words.Command.TheVariants.{Degree, Bfs}
+use Rattle.graphite_top.specs.Words.{none_given, query_of}
 use Rattle.graphite_top.specs.Output.{output_of}
 
 worked : output_of (codes "degree" ∷ []) (Some (codes "graph 1 10\nv a 0 10\nv b 0 10\nv c 2 8\ne ab a b 0 5\ne bc b c 3 7\nend\n")) ≡
@@ -38,14 +39,14 @@ unfolding reading_of
 no_such_vertex = refl
 
 -- the words alone
-plain_degree : query_of (codes "degree" ∷ []) ≡ Some Degree
+plain_degree : query_of (codes "degree" ∷ []) ≡ Some (record { command = Degree; options = none_given })
 plain_degree = refl
 
-any_order : query_of (codes "bfs" ∷ codes "--steps" ∷ codes "4" ∷ codes "--source" ∷ codes "a" ∷ []) ≡ Some (Bfs (codes "a") (Some 4))
+any_order : query_of (codes "bfs" ∷ codes "--steps" ∷ codes "4" ∷ codes "--source" ∷ codes "a" ∷ []) ≡ Some (record { command = Bfs; options = record { source = Some (codes "a"); steps = Some 4 } })
 any_order = refl
 
 -- a value is taken as it is
-value_like_an_option : query_of (codes "bfs" ∷ codes "--source" ∷ codes "--steps" ∷ []) ≡ Some (Bfs (codes "--steps") None)
+value_like_an_option : query_of (codes "bfs" ∷ codes "--source" ∷ codes "--steps" ∷ []) ≡ Some (record { command = Bfs; options = record { source = Some (codes "--steps"); steps = None } })
 value_like_an_option = refl
 
 no_source : query_of (codes "bfs" ∷ codes "--steps" ∷ codes "4" ∷ []) ≡ None

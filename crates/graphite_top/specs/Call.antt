@@ -8,11 +8,11 @@ use Rattle.graphite_top.specs.declared.status.Status.{Status}
 use Rattle.graphite_top.specs.declared.status.Status.TheVariants.{Done, TextRefused, WordsRefused, QueryRefused, ReadFault, WriteFault, NoMemory}
 use Rattle.graphite_top.specs.Output.{Answer}
 
--- told bytes grew by a front of these
-abbrev pub AppendsFront : Option (List ℕ) → Option (List ℕ) → List ℕ → Type 0
-AppendsFront old new bytes = (n : ℕ) × Appends old new (take n bytes)
+-- told bytes grew by a prefix of these
+abbrev pub AppendsPrefix : Option (List ℕ) → Option (List ℕ) → List ℕ → Type 0
+AppendsPrefix old new bytes = (n : ℕ) × Appends old new (take n bytes)
 
--- the status and the text of the answer; a front of the text where it could not be written or made,
+-- the status and the text of the answer; a prefix of the text where it could not be written or made,
 -- and nothing where the source failed
 abbrev pub Answers : Status → Answer → (old new : Option (List ℕ)) → Type 0
 Answers Done answer old new = (Done ≡ answer.status) × Appends old new answer.text
@@ -20,8 +20,8 @@ Answers TextRefused answer old new = (TextRefused ≡ answer.status) × Appends 
 Answers WordsRefused answer old new = (WordsRefused ≡ answer.status) × Appends old new answer.text
 Answers QueryRefused answer old new = (QueryRefused ≡ answer.status) × Appends old new answer.text
 Answers ReadFault answer old new = Keeps old new
-Answers WriteFault answer old new = AppendsFront old new answer.text
-Answers NoMemory answer old new = AppendsFront old new answer.text
+Answers WriteFault answer old new = AppendsPrefix old new answer.text
+Answers NoMemory answer old new = AppendsPrefix old new answer.text
 
 -- what writing an answer that is known did, and when it was a fault
 abbrev pub Writes : Status → Answer → (old new : Option (List ℕ)) → (before now : ℕ) → Type 0
@@ -30,8 +30,8 @@ Writes TextRefused answer old new before now = (TextRefused ≡ answer.status) �
 Writes WordsRefused answer old new before now = (WordsRefused ≡ answer.status) × Appends old new answer.text
 Writes QueryRefused answer old new before now = (QueryRefused ≡ answer.status) × Appends old new answer.text
 Writes ReadFault answer old new before now = ⊥
-Writes WriteFault answer old new before now = AppendsFront old new answer.text × Rose before now
-Writes NoMemory answer old new before now = AppendsFront old new answer.text
+Writes WriteFault answer old new before now = AppendsPrefix old new answer.text × Rose before now
+Writes NoMemory answer old new before now = AppendsPrefix old new answer.text
 
 -- the call ended with the status and the whole text of the answer
 pub record Gives (status : Status) (answer : Answer) (old new : Option (List ℕ)) : Type 0 where

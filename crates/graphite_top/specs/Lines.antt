@@ -1,4 +1,4 @@
--- The lines of a report while they are written.
+-- For proofs and private functions alone: the lines of a report while they are written.
 use Rattle.std.specs.Prelude.{◌≡◌, ℕ, ◌<◌, false, List, [], length, slice_index_or, drop, Option, None}
 use Rattle.graphite_part.specs.declared.piece.Piece.{Piece}
 use Rattle.graphite_part.specs.Pieces.{value_at}

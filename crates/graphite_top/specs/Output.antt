@@ -1,5 +1,5 @@
 -- What a call of the program writes, by cases on the words and the text.
-use Rattle.std.specs.Prelude.{ℕ, ◌+◌, List, ◌++◌, codes, decimal, Option, Some, None, option_map, unwrap_or}
+use Rattle.std.specs.Prelude.{ℕ, ◌+◌, ⊤, List, ◌++◌, codes, decimal, Option, Some, None, option_map, option_and_then, unwrap_or}
 use Rattle.graphite_text.specs.Canonical.{canonical_text}
 use Rattle.graphite_text.specs.Graph.{PlainGraph, vertex_number}
 use Rattle.graphite_text.specs.Reading.{Reading, Accepted, Refused, reading_of}
@@ -7,29 +7,29 @@ use Rattle.graphite_graph.specs.Ends.{lifespan_count}
 use Rattle.graphite_report.specs.Report.{Heading, intervals_report}
 use Rattle.graphite_snap.specs.declared.query.SnapQuery.{SnapQuery}
 use Rattle.graphite_snap.specs.declared.query.SnapQuery.TheVariants as snap
-use Rattle.graphite_snap.specs.Answers.{printed_at, made_of, calls_of}
+use Rattle.graphite_snap.specs.Description.{Meaning}
+use Rattle.graphite_snap.specs.Answers.{meaning_of, IsAsked}
 use Rattle.graphite_top.specs.declared.status.Status.{Status}
 use Rattle.graphite_top.specs.declared.status.Status.TheVariants.{Done, TextRefused, WordsRefused, QueryRefused}
-use Rattle.graphite_top.specs.Words.{PlainQuery, Degree, Show, Bfs, query_of}
+use Rattle.graphite_top.specs.declared.asked.Asked.{Asked}
+use Rattle.graphite_top.specs.declared.asked.Asked.TheVariants.{Text, Snap, NoVertex}
+use Rattle.graphite_top.specs.declared.words.Command.{Command}
+use Rattle.graphite_top.specs.declared.words.Command.TheVariants.{Degree, Bfs, Show}
+use Rattle.graphite_top.specs.Words.{PlainQuery, row_of, query_of}
 
 -- A status and the text that is written with it.
 pub record Answer : Type 0 where
   pub status : Status
   pub text : List ℕ
 
--- the word that names a program of snapshots
-abbrev pub program_name : SnapQuery → List ℕ
-program_name snap.Degree = codes "degree"
-program_name (snap.Bfs source) = codes "bfs"
+-- the first line's content, from the program's word, the supersteps made and the calls
+abbrev pub snap_heading : List ℕ → (made calls : ℕ) → Heading
+snap_heading word made calls = record { program = word; steps = made; calls = Some calls }
 
--- the first line's content, from the supersteps made and the calls
-abbrev pub snap_heading : SnapQuery → (made calls : ℕ) → Heading
-snap_heading query made calls = record { program = program_name query; steps = made; calls = Some calls }
-
--- the report of a program of snapshots that is allowed so many supersteps
-abbrev pub snap_report : PlainGraph → SnapQuery → ℕ → List ℕ
-snap_report graph query steps =
-    intervals_report (snap_heading query (made_of graph query steps) (calls_of graph query steps)) graph (printed_at graph query steps)
+-- the report of a program of snapshots with this word that is allowed so many supersteps
+abbrev pub snap_report : PlainGraph → List ℕ → Meaning → ℕ → List ℕ
+snap_report graph word program steps =
+    intervals_report (snap_heading word (program.made graph steps) (program.calls graph steps)) graph (program.printed_at graph steps)
 
 -- how many supersteps are allowed where the words do not say it: one more than the vertices have lifespans
 abbrev pub usual_steps : PlainGraph → ℕ
@@ -54,17 +54,33 @@ text_refusal line rule = record {
 abbrev pub query_refusal : Answer
 query_refusal = record { status = QueryRefused; text = codes "refused query 1\n" }
 
--- the answer of a search from the vertex that was named, where there is one
-abbrev pub bfs_answer : PlainGraph → ℕ → Option ℕ → Answer
-bfs_answer graph steps None = query_refusal
-bfs_answer graph steps (Some source) = report_answer (snap_report graph (snap.Bfs source) steps)
+-- what a command asks of a graph, where the source that it was given has this number, or names no vertex
+abbrev pub asked_by : Command → Option ℕ → Asked
+asked_by Degree source = Snap snap.Degree
+asked_by Bfs None = NoVertex
+asked_by Bfs (Some source) = Snap (snap.Bfs source)
+asked_by Show source = Text
 
--- the answer of a program for a graph; degree makes no superstep, however many are allowed
+-- a vertex that a program starts from is one of the graph
+abbrev pub IsAskedOf : PlainGraph → Asked → Type 0
+IsAskedOf graph (Snap query) = IsAsked graph query
+IsAskedOf graph _ = ⊤
+
+-- the number of the vertex that a query names, if it names one of the graph
+abbrev pub source_of : PlainQuery → PlainGraph → Option ℕ
+source_of query graph = option_and_then (vertex_number graph) query.options.source
+
+-- the answer to what is asked of a graph, by a program with this word that is allowed so many supersteps
+abbrev pub asked_answer : PlainGraph → (word : List ℕ) → (steps : ℕ) → Asked → Answer
+asked_answer graph word steps Text = report_answer (canonical_text graph)
+asked_answer graph word steps (Snap query) = report_answer (snap_report graph word (meaning_of query) steps)
+asked_answer graph word steps NoVertex = query_refusal
+
+-- the answer to a query for a graph
 abbrev pub graph_answer : PlainQuery → PlainGraph → Answer
-graph_answer Degree graph = report_answer (snap_report graph snap.Degree (usual_steps graph))
-graph_answer Show graph = report_answer (canonical_text graph)
-graph_answer (Bfs source steps) graph =
-    bfs_answer graph (unwrap_or steps (usual_steps graph)) (vertex_number graph source)
+graph_answer query graph =
+    asked_answer graph (row_of query.command).word (unwrap_or query.options.steps (usual_steps graph))
+    (asked_by query.command (source_of query graph))
 
 -- the answer to what the reading of a text gives
 abbrev pub reading_answer : PlainQuery → Reading → Answer

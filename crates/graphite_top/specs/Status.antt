@@ -1,8 +1,9 @@
+-- The exit codes of the program.
 use Rattle.std.specs.Prelude.{ℕ}
 use Rattle.graphite_top.specs.declared.status.Status.{Status}
 use Rattle.graphite_top.specs.declared.status.Status.TheVariants.{Done, TextRefused, WordsRefused, QueryRefused, ReadFault, WriteFault, NoMemory}
 
--- the exit status of the program
+-- the exit code that comes with a status
 abbrev pub code_of : Status → ℕ
 code_of Done = 0
 code_of TextRefused = 1

@@ -1,4 +1,4 @@
--- How a text goes through a buffer to a sink.
+-- For proofs and private functions alone: how a text goes through a buffer to a sink.
 use Rattle.std.specs.Prelude.{◌≡◌, ℕ, List, ◌++◌, Option}
 use Rattle.std.specs.Io.KnownBytes.{Appends}
 

@@ -1,26 +1,48 @@
--- What the words ask for: a program, and then pairs of an option and its value.
-use Rattle.std.specs.Prelude.{ℕ, ◌&&◌, ◌==◌, is_none, List, [], ◌∷◌, codes, Option, Some, None, option_map, option_and_then, if◌then◌else◌}
+-- What the words ask for: a program of the table, and then pairs of an option and its value.
+use Rattle.std.specs.Prelude.{ℕ, Bool, true, false, ◌||◌, ◌&&◌, ◌==◌, is_none, is_some, List, [], ◌∷◌, codes, find, Option, Some, None, option_map, option_and_then, if◌then◌else◌, IsTrue}
 use Rattle.std.specs.Str.{bytes_eq}
 use Rattle.graphite_base.specs.Numbers.{number_in}
+use Rattle.graphite_api.specs.declared.TheConstants.{STEP_LIMIT}
+use Rattle.graphite_top.specs.declared.words.Command.{Command}
+use Rattle.graphite_top.specs.declared.words.Command.TheVariants.{Degree, Bfs, Show}
 
--- A program, with what the words give it.
-pub data PlainQuery : Type 0 where
-  Degree : PlainQuery
-  Show : PlainQuery
-  Bfs : (source : List ℕ) → (steps : Option ℕ) → PlainQuery
+-- A row of the table: the word that names the program, whether it starts from a vertex, whose name has
+-- to be given, and whether it may be given the number of supersteps allowed.
+pub record PlainRow : Type 0 where
+  pub word : List ℕ
+  pub wants_source : Bool
+  pub takes_steps : Bool
+
+-- the table of programs
+abbrev pub row_of : Command → PlainRow
+row_of Degree = record { word = codes "degree"; wants_source = false; takes_steps = false }
+row_of Bfs = record { word = codes "bfs"; wants_source = true; takes_steps = true }
+row_of Show = record { word = codes "show"; wants_source = false; takes_steps = false }
+
+abbrev pub commands : List Command
+commands = Degree ∷ Bfs ∷ Show ∷ []
+
+-- the program that a word names
+abbrev pub command_of : List ℕ → Option Command
+command_of word = find (λ command. bytes_eq (row_of command).word word) commands
 
 -- The options that are given: the name of a vertex to start from, and the number of supersteps allowed.
 pub record PlainOptions : Type 0 where
   pub source : Option (List ℕ)
   pub steps : Option ℕ
 
+-- A program, with the options that it takes.
+pub record PlainQuery : Type 0 where
+  pub command : Command
+  pub options : PlainOptions
+
 -- no option is given
 abbrev pub none_given : PlainOptions
 none_given = record { source = None; steps = None }
 
--- the number of supersteps that a value says: a canonical decimal from 1 to 2,097,152
+-- the number of supersteps that a value says: a canonical decimal from 1 to the limit of supersteps
 abbrev pub steps_in : List ℕ → Option ℕ
-steps_in value = option_and_then (λ n. if n == 0 then None else Some n) (number_in 2097152 value)
+steps_in value = option_and_then (λ n. if n == 0 then None else Some n) (number_in STEP_LIMIT value)
 
 -- the options with this source too; none where one was given before
 abbrev pub with_source : List ℕ → PlainOptions → Option PlainOptions
@@ -43,27 +65,23 @@ with_options [] options = Some options
 with_options (word ∷ []) options = None
 with_options (option ∷ value ∷ words) options = option_and_then (with_options words) (with_option option value options)
 
--- a program that takes no option
-abbrev pub alone : PlainQuery → PlainOptions → Option PlainQuery
-alone query options = if is_none options.source && is_none options.steps then Some query else None
+-- a source is given exactly where the program wants one, and a number of supersteps only where it takes one
+abbrev pub takes : PlainRow → PlainOptions → Bool
+takes row options =
+    (if row.wants_source then is_some options.source else is_none options.source) && (is_none options.steps || row.takes_steps)
 
--- breadth-first search, which must be told its source
-abbrev pub bfs_with : PlainOptions → Option PlainQuery
-bfs_with options = option_map (λ source. Bfs source options.steps) options.source
-
--- the program that a word names, with the options given; none where it does not take them
-abbrev pub query_with : List ℕ → PlainOptions → Option PlainQuery
-query_with program options =
-    if bytes_eq program (codes "degree") then alone Degree options
-    else (if bytes_eq program (codes "show") then alone Show options
-    else (if bytes_eq program (codes "bfs") then bfs_with options else None))
+-- a program with the options given; none where it does not take them
+abbrev pub query_with : Command → PlainOptions → Option PlainQuery
+query_with command options =
+    if takes (row_of command) options then Some (record { command = command; options = options }) else None
 
 -- what the words ask for; none where they are refused
 abbrev pub query_of : List (List ℕ) → Option PlainQuery
 query_of [] = None
-query_of (program ∷ words) = option_and_then (query_with program) (with_options words none_given)
+query_of (program ∷ words) =
+    option_and_then (λ options. option_and_then (λ command. query_with command options) (command_of program)) (with_options words none_given)
 
--- the words ask for a program that starts from a vertex that they name
+-- the words ask for a program that starts from a vertex, which they name
 abbrev pub NamesSource : Option PlainQuery → Type 0
-NamesSource (Some (Bfs source steps)) = Unit {0}
-NamesSource _ = ⊥
+NamesSource None = ⊥
+NamesSource (Some query) = IsTrue (row_of query.command).wants_source

@@ -1,30 +1,25 @@
+//! The whole of the program, once it has its words.
 ghost use Rattle.std.specs.Prelude.{◌≡◌, ◌≢◌, ◌≤◌, ℕ, Bool, true, false, map, length, string_bytes, IfOk, IfSome, IsSome};
 ghost use Rattle.std.specs.Io.KnownBytes.{Keeps};
 ghost use Rattle.graphite_base.specs.Causes.{Rose};
 ghost use Rattle.graphite_base.specs.Known.{IsEmptied};
 ghost use Rattle.graphite_text.specs.Canonical.{canonical_text};
-ghost use Rattle.graphite_text.specs.Graph.{vertex_number};
 ghost use Rattle.graphite_text.specs.Reading.{text_limit};
-ghost use Rattle.graphite_top.specs.Output.{bfs_answer, graph_answer, output_of, query_refusal, report_answer, text_answer, text_refusal, usual_steps, words_refusal};
+ghost use Rattle.graphite_top.specs.Output.{graph_answer, output_of, query_refusal, report_answer, text_answer, text_refusal, usual_steps, words_refusal};
 ghost use Rattle.graphite_top.specs.Query.{number_given, plain_query};
 ghost use Rattle.graphite_top.specs.Words.{NamesSource, query_of};
 ghost use Rattle.graphite_top.specs.Call.{Answers, Writes, Gives, IsWritten, IsReadThrough};
 
 use crate::Status;
+use crate::asked::{Asked, asked_of};
 use crate::snap::write_snap;
 use crate::steps::Steps;
-use crate::words::{Query, query_of};
-use graphite_base::{ReadText, Sink, Source, push_number, read_text, write_all};
+use crate::words::{Query, query_of, row_of};
+use graphite_base::{ReadText, Sink, Source, TEXT_LIMIT, push_number, read_text, write_all};
 use graphite_graph::{Graph, LoadFault, load};
-use graphite_snap::SnapQuery;
+use graphite_text::LENGTH_RULE;
 use graphite_time::NoMemory;
 use std::alloc::Global;
-
-/// The most bytes that a text may have.
-const TEXT_LIMIT: usize = 268_435_456;
-
-/// The rule that a longer text breaks.
-const LENGTH_RULE: u8 = 16;
 
 /// Does what the words ask for with the text of the source, and writes the report or the refusal to
 /// the sink: the whole of the program, once it has its words. `words` are those after the program's
@@ -35,7 +30,7 @@ pub fn run<S: Source, K: Sink>(
     source: &mut S,
     sink: &mut K,
 ) -> Status
-    // The status and the text of the answer, or a front of that text.
+    // The status and the text of the answer, or a prefix of that text.
     ensures answer { IfSome (output_of (map string_bytes words.now) (S.left source.old))
         (λ answer. Answers result answer (K.written sink.old) (K.written sink.new)) }
 
@@ -85,19 +80,20 @@ fn answer_text<K: Sink>(alloc: Global, query: Query<'_>, text: &[u8], sink: &mut
     }
 }
 
-/// Writes the answer of a program for a graph.
+/// Writes the answer to a query for a graph.
 fn report<K: Sink>(alloc: Global, query: Query<'_>, graph: &Graph<'_>, sink: &mut K) -> Status
     ensures writes { Writes result (graph_answer (plain_query query.entry) graph.now) (K.written sink.old) (K.written sink.new) (K.faults sink.old) (K.faults sink.new) }
     ensures query_refused { result ≡ Status.QueryRefused → NamesSource (Some (plain_query query.entry)) }
     ensures later { K.faults sink.old ≤ K.faults sink.new }
 {
-    match query {
-        Query::Degree => write_snap(alloc, graph, &SnapQuery::Degree, usual_steps(graph), sink),
-        Query::Show => write_shown(alloc, graph, sink),
-        Query::Bfs { source, steps } => {
-            let steps = steps.unwrap_or(usual_steps(graph));
-            search(alloc, graph, source, steps, sink)
+    match asked_of(query, graph) {
+        Asked::Text => write_shown(alloc, graph, sink),
+        Asked::Snap(program) => {
+            let word = row_of(query.command).word;
+            let steps = query.options.steps.unwrap_or(usual_steps(graph));
+            write_snap(alloc, graph, word, &program, steps, sink)
         }
+        Asked::NoVertex => write(sink, b"refused query 1\n", Status::QueryRefused),
     }
 }
 
@@ -107,24 +103,6 @@ fn usual_steps(graph: &Graph<'_>) -> Steps
     ensures { result.number ≡ usual_steps graph.now }
 {
     Steps::new(graph.lifespans() + 1)
-}
-
-/// Writes the report of a search from the vertex with a name, or the refusal of a name that no vertex
-/// has.
-fn search<K: Sink>(
-    alloc: Global,
-    graph: &Graph<'_>,
-    source: &[u8],
-    steps: Steps,
-    sink: &mut K,
-) -> Status
-    ensures writes { Writes result (bfs_answer graph.now steps.number (vertex_number graph.now source.now)) (K.written sink.old) (K.written sink.new) (K.faults sink.old) (K.faults sink.new) }
-    ensures later { K.faults sink.old ≤ K.faults sink.new }
-{
-    match graph.find_vertex(source) {
-        Some(source) => write_snap(alloc, graph, &SnapQuery::Bfs(source), steps, sink),
-        None => write(sink, b"refused query 1\n", Status::QueryRefused),
-    }
 }
 
 /// Writes the canonical text of a graph.

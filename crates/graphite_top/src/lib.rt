@@ -1,6 +1,7 @@
 //! The top call: words and a text come in, a report or a refusal goes out.
 #![tactic(auto)]
 
+mod asked;
 mod call;
 mod report;
 mod snap;

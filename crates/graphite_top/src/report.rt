@@ -1,3 +1,4 @@
+//! Lines of a report, gathered in a buffer and sent.
 ghost use Rattle.std.specs.Prelude.{◌≡◌, ◌++◌, ◌≤◌, [], map, flat_map, OnOk, OnErr};
 ghost use Rattle.std.specs.Io.KnownBytes.{Appends};
 ghost use Rattle.graphite_base.specs.Causes.{Rose};
@@ -10,13 +11,16 @@ use graphite_base::{Sink, WriteFailed, push_number, write_all};
 use graphite_part::Piece;
 use graphite_time::NoMemory;
 use std::alloc::AllocError;
+use thiserror::Error;
 
 /// Why a report was not written whole.
-#[derive(Clone, Copy, Debug, PartialEq, Eq)]
+#[derive(Clone, Copy, Debug, PartialEq, Eq, Error)]
 pub enum ReportFault {
     /// The sink failed.
+    #[error("the report could not be written")]
     WriteFailed,
-    /// Memory could not be had.
+    /// Out of memory.
+    #[error("out of memory")]
     NoMemory,
 }
 

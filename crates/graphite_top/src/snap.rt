@@ -1,11 +1,12 @@
+//! The report of a program of snapshots.
 ghost use Rattle.std.specs.Prelude.{◌≡◌, ◌++◌, ◌+◌, ◌<◌, ◌≤◌, ℕ, [], length, IfOk, OnOk, OnErr};
 ghost use Rattle.std.specs.Io.KnownBytes.{Appends};
 ghost use Rattle.graphite_base.specs.Causes.{Rose};
 ghost use Rattle.graphite_report.specs.Report.{first_line};
-ghost use Rattle.graphite_snap.specs.Answers.{IsAsked};
-ghost use Rattle.graphite_top.specs.Call.{AppendsFront, Writes};
+ghost use Rattle.graphite_snap.specs.Answers.{meaning_of, IsAsked};
+ghost use Rattle.graphite_top.specs.Call.{AppendsPrefix, Writes};
 ghost use Rattle.graphite_top.specs.Lines.{AreOfVertices, lines_from, values_in};
-ghost use Rattle.graphite_top.specs.Output.{program_name, report_answer, snap_heading, snap_report};
+ghost use Rattle.graphite_top.specs.Output.{report_answer, snap_heading, snap_report};
 ghost use Rattle.graphite_top.specs.Through.{Through};
 
 use crate::Status;
@@ -18,23 +19,13 @@ use graphite_snap::{SnapQuery, run_snap};
 use graphite_time::NoMemory;
 use std::alloc::Global;
 
-/// The word that names a program.
-fn program_name(query: &SnapQuery) -> &'static [u8]
-    ensures { result.now ≡ program_name query.now }
-{
-    match query {
-        SnapQuery::Degree => b"degree",
-        SnapQuery::Bfs(_) => b"bfs",
-    }
-}
-
 /// A buffer with the first line of the report.
-fn first_line(alloc: Global, query: &SnapQuery, made: u32, calls: u128) -> Result<Vec<u8>, NoMemory>
-    ensures { IfOk result (λ buffer. buffer.items ≡ first_line (snap_heading query.now made calls)) }
+fn first_line(alloc: Global, word: &[u8], made: u32, calls: u128) -> Result<Vec<u8>, NoMemory>
+    ensures { IfOk result (λ buffer. buffer.items ≡ first_line (snap_heading word.now made calls)) }
 {
     let mut buffer = Vec::with_capacity(alloc, 2 * PIECE)?;
     buffer.extend_from_slice(b"graphite ")?;
-    buffer.extend_from_slice(program_name(query))?;
+    buffer.extend_from_slice(word)?;
     buffer.extend_from_slice(b" steps ")?;
     push_number(&mut buffer, u128::from(made))?;
     buffer.extend_from_slice(b" calls ")?;
@@ -55,8 +46,8 @@ fn push_vertex(
     ensures { OnOk result (into.new.items ++ lines_from graph.now (values_in all.now) (v + 1)
         ≡ into.old.items ++ lines_from graph.now (values_in all.now) v) }
 {
-    // Its life ends by the horizon, so no value is printed from there on.
-    let _ = graph.vertex_life(v);
+    // nothing lives from the horizon on, so no value is printed from there on
+    let _horizon = graph.horizon();
     push_lines(into, graph.vertex_name(v), all[v as usize].pieces())?;
     Ok(())
 }
@@ -71,7 +62,7 @@ fn write_vertices<K: Sink>(
     requires all { AreOfVertices graph.now all.now }
     ensures ok { OnOk result (Through (K.written sink.old) (K.written sink.new) buffer.new.items []
         (buffer.old.items ++ lines_from graph.now (values_in all.now) 0)) }
-    ensures err { OnErr result (AppendsFront (K.written sink.old) (K.written sink.new)
+    ensures err { OnErr result (AppendsPrefix (K.written sink.old) (K.written sink.new)
         (buffer.old.items ++ lines_from graph.now (values_in all.now) 0)) }
     ensures failed { result ≡ Err ReportFault.WriteFailed → Rose (K.faults sink.old) (K.faults sink.new) }
     ensures later { K.faults sink.old ≤ K.faults sink.new }
@@ -87,38 +78,40 @@ fn write_vertices<K: Sink>(
 fn write_report<K: Sink>(
     alloc: Global,
     graph: &Graph<'_>,
+    word: &[u8],
     query: &SnapQuery,
     steps: Steps,
     sink: &mut K,
 ) -> Result<(), ReportFault>
     requires { IsAsked graph.now query.now }
-    ensures ok { OnOk result (Appends (K.written sink.old) (K.written sink.new) (snap_report graph.now query.now steps.number)) }
-    ensures err { OnErr result (AppendsFront (K.written sink.old) (K.written sink.new) (snap_report graph.now query.now steps.number)) }
+    ensures ok { OnOk result (Appends (K.written sink.old) (K.written sink.new) (snap_report graph.now word.now (meaning_of query.now) steps.number)) }
+    ensures err { OnErr result (AppendsPrefix (K.written sink.old) (K.written sink.new) (snap_report graph.now word.now (meaning_of query.now) steps.number)) }
     ensures failed { result ≡ Err ReportFault.WriteFailed → Rose (K.faults sink.old) (K.faults sink.new) }
     ensures later { K.faults sink.old ≤ K.faults sink.new }
 {
     let answer = run_snap(alloc, graph, query, steps.number)?;
-    let mut buffer = first_line(alloc, query, answer.made, answer.calls)?;
+    let mut buffer = first_line(alloc, word, answer.made, answer.calls)?;
     write_vertices(graph, &answer.values, &mut buffer, sink)?;
     buffer.extend_from_slice(b"end\n")?;
     send(&mut buffer, sink)?;
     Ok(())
 }
 
-/// Writes the report of a program of snapshots that is allowed so many supersteps. A vertex that it
-/// starts from is one of the graph.
+/// Writes the report of a program of snapshots, which this word names and which is allowed so many
+/// supersteps. A vertex that it starts from is one of the graph.
 pub fn write_snap<K: Sink>(
     alloc: Global,
     graph: &Graph<'_>,
+    word: &[u8],
     query: &SnapQuery,
     steps: Steps,
     sink: &mut K,
 ) -> Status
     requires { IsAsked graph.now query.now }
-    ensures writes { Writes result (report_answer (snap_report graph.now query.now steps.number)) (K.written sink.old) (K.written sink.new) (K.faults sink.old) (K.faults sink.new) }
+    ensures writes { Writes result (report_answer (snap_report graph.now word.now (meaning_of query.now) steps.number)) (K.written sink.old) (K.written sink.new) (K.faults sink.old) (K.faults sink.new) }
     ensures later { K.faults sink.old ≤ K.faults sink.new }
 {
-    match write_report(alloc, graph, query, steps, sink) {
+    match write_report(alloc, graph, word, query, steps, sink) {
         Ok(()) => Status::Done,
         Err(ReportFault::WriteFailed) => Status::WriteFault,
         Err(ReportFault::NoMemory) => Status::NoMemory,

@@ -1,3 +1,4 @@
+//! How a call of the program ended.
 ghost use Rattle.std.specs.Prelude.{◌≡◌};
 
 /// How a call of the program ended.
@@ -13,16 +14,16 @@ pub enum Status {
     QueryRefused,
     /// A read failed; nothing was written.
     ReadFault,
-    /// A write failed; a front of what would have come was written.
+    /// A write failed; a prefix of what would have come was written.
     WriteFault,
-    /// Memory could not be had; a front of what would have come was written.
+    /// Out of memory; a prefix of what would have come was written.
     NoMemory,
 }
 
 impl Status {
     ghost use Rattle.graphite_top.specs.Status.{code_of};
 
-    /// The exit status of the program.
+    /// The exit code of the program.
     pub fn code(self) -> u8
         ensures { result ≡ code_of self }
     {

@@ -1,20 +1,19 @@
+//! The number of supersteps that the words may allow.
 ghost use Rattle.std.specs.Prelude.{◌≡◌, ◌≤◌};
+ghost use Rattle.graphite_api.specs.declared.TheConstants.{STEP_LIMIT};
 
-/// How many supersteps a program may make: from 1 to [`Steps::LIMIT`].
+/// How many supersteps a program may make: from 1 to [`graphite_api::STEP_LIMIT`].
 #[derive(Clone, Copy, Debug, PartialEq, Eq)]
 pub struct Steps {
     pub number: u32,
-    ghost in_range: { (1 ≤ number) × (number ≤ 2097152) },
+    ghost in_range: { (1 ≤ number) × (number ≤ STEP_LIMIT) },
 }
 
 impl Steps {
-    /// The most supersteps that may be allowed.
-    pub const LIMIT: u32 = 2_097_152;
-
     /// So many supersteps.
     pub fn new(number: u32) -> Steps
         requires some { 1 ≤ number }
-        requires few { number ≤ 2097152 }
+        requires few { number ≤ STEP_LIMIT }
         ensures { result.number ≡ number }
     {
         Steps { number }

@@ -1,6 +1,11 @@
+//! Runs of the program on whole texts, by the top call.
+ghost use Rattle.std.specs.Prelude.{None};
+
 use super::*;
-use graphite_base::{ScriptSink, ScriptSource, SliceSource, VecSink};
+use graphite_base::{Got, ScriptSink, ScriptSource, SliceSource, Source, VecSink, push_number};
+use graphite_time::NoMemory;
 use std::alloc::{AllocError, Global};
+use std::ops::Range;
 use std::process::Abort;
 use std::test::Fail;
 
@@ -31,7 +36,7 @@ fn expect_run(
 ) -> Result<(), Fail> {
     let words = words_of(alloc, words)?;
     let mut source = SliceSource::new(text);
-    let mut sink = VecSink::new(alloc, 4096)?;
+    let mut sink = VecSink::new(alloc, 200_000)?;
     assert_eq!(rt; run(alloc, &words, &mut source, &mut sink), status);
     assert_eq!(rt; sink.written(), written);
     Ok(())
@@ -267,8 +272,82 @@ fn a_failing_source_and_a_failing_sink(rt: HostRuntime) -> Result<(), Fail> {
     Ok(())
 }
 
+/// A line for each vertex of these numbers: its name between two other parts.
+fn push_rows(
+    all: &mut Vec<u8>,
+    numbers: Range<u32>,
+    before: &[u8],
+    behind: &[u8],
+) -> Result<(), NoMemory> {
+    for number in numbers {
+        all.extend_from_slice(before)?;
+        push_number(all, u128::from(number))?;
+        all.extend_from_slice(behind)?;
+    }
+    Ok(())
+}
+
+/// 9,000 vertices without an edge.
+fn many_vertices(alloc: Global) -> Result<Vec<u8>, NoMemory> {
+    let mut text = Vec::from_slice(alloc, b"graph 1 10\n")?;
+    push_rows(&mut text, 0..9000, b"v n", b" 0 10\n")?;
+    text.extend_from_slice(b"end\n")?;
+    Ok(text)
+}
+
+/// The report of a search from the first of them, which is longer than what is gathered for a write.
+fn search_of_many(alloc: Global) -> Result<Vec<u8>, NoMemory> {
+    let mut report = Vec::from_slice(alloc, b"graphite bfs steps 2 calls 9000\n")?;
+    push_rows(&mut report, 0..1, b"n", b" 0 10 0\n")?;
+    push_rows(&mut report, 1..9000, b"n", b" 0 10 none\n")?;
+    report.extend_from_slice(b"end\n")?;
+    Ok(report)
+}
+
 #[test]
-fn exit_statuses(rt: HostRuntime) {
+fn a_report_of_thousands_of_vertices(rt: HostRuntime) -> Result<(), Fail> {
+    let text = many_vertices(rt.alloc())?;
+    let report = search_of_many(rt.alloc())?;
+    let words = ["bfs", "--source", "n0"];
+    expect_run(&rt, rt.alloc(), &words, &text, Status::Done, &report)
+}
+
+/// A source that gives so many bytes, of which it holds none: those that stand where they are read to.
+#[derive(Drop)]
+struct LongSource {
+    rest: usize,
+}
+
+impl Source for LongSource {
+    ghost left = { λ _. None };
+
+    ghost faults = { λ _. 0 };
+
+    fn read(&mut self, into: &mut [u8]) -> Got {
+        let count = self.rest.min(into.len());
+        if count == 0 {
+            return Got::End;
+        }
+        self.rest -= count;
+        Got::Bytes(count)
+    }
+}
+
+#[test]
+fn a_text_of_one_byte_too_many(rt: HostRuntime) -> Result<(), Fail> {
+    let words = words_of(rt.alloc(), &["degree"])?;
+    let mut source = LongSource { rest: 268_435_457 };
+    let mut sink = VecSink::new(rt.alloc(), 100)?;
+    assert_eq!(rt;
+        run(rt.alloc(), &words, &mut source, &mut sink),
+        Status::TextRefused
+    );
+    assert_eq!(rt; sink.written(), b"refused text line 0 rule 16\n".as_slice());
+    Ok(())
+}
+
+#[test]
+fn exit_codes(rt: HostRuntime) {
     let statuses = [
         (Status::Done, 0),
         (Status::TextRefused, 1),

@@ -1,32 +1,72 @@
+//! What the words ask for: a program of the table, and the options that it takes.
 ghost use Rattle.std.specs.Prelude.{◌≡◌, map, option_map, string_bytes};
+ghost use Rattle.graphite_top.specs.Query.{number_given, plain_options, plain_query, plain_row};
+ghost use Rattle.graphite_top.specs.Words.{command_of, none_given, query_of, query_with, row_of, steps_in, takes, with_option, with_options, with_source, with_steps};
 
 use crate::steps::Steps;
+use graphite_api::STEP_LIMIT;
 use graphite_base::number_of;
 
-/// What the words ask for.
+/// A program that the words may ask for.
 #[derive(Clone, Copy, Debug, PartialEq, Eq)]
-pub enum Query<'w> {
+pub enum Command {
     /// The out-degree of each vertex at each instant of its life.
     Degree,
+    /// Breadth-first search from a vertex.
+    Bfs,
     /// The canonical text of the graph.
     Show,
-    /// Breadth-first search from the vertex with this name. Where the number of supersteps allowed is
-    /// not given, it goes by the graph.
-    Bfs {
-        source: &'w [u8],
-        steps: Option<Steps>,
-    },
+}
+
+/// A row of the table of programs.
+#[derive(Clone, Copy, Debug, PartialEq, Eq)]
+pub struct Row {
+    /// The word that names the program.
+    pub word: &'static [u8],
+    /// Whether it starts from a vertex, whose name has to be given. No other program may be given one.
+    pub wants_source: bool,
+    /// Whether it may be given the number of supersteps allowed.
+    pub takes_steps: bool,
+}
+
+/// What the words ask for: a program with the options that it takes.
+#[derive(Clone, Copy, Debug, PartialEq, Eq)]
+pub struct Query<'w> {
+    pub command: Command,
+    pub options: Options<'w>,
 }
 
 /// The options that the words give, each at most once.
 #[derive(Clone, Copy, Debug, PartialEq, Eq)]
-struct Options<'w> {
-    source: Option<&'w [u8]>,
-    steps: Option<Steps>,
+pub struct Options<'w> {
+    /// The name of the vertex to start from.
+    pub source: Option<&'w [u8]>,
+    /// The number of supersteps allowed.
+    pub steps: Option<Steps>,
 }
 
-ghost use Rattle.graphite_top.specs.Query.{number_given, plain_options, plain_query};
-ghost use Rattle.graphite_top.specs.Words.{PlainQuery, alone, bfs_with, none_given, query_of, query_with, steps_in, with_option, with_options, with_source, with_steps};
+/// The row of a program.
+pub fn row_of(command: Command) -> Row
+    ensures { plain_row result ≡ row_of command }
+{
+    match command {
+        Command::Degree => Row {
+            word: b"degree",
+            wants_source: false,
+            takes_steps: false,
+        },
+        Command::Bfs => Row {
+            word: b"bfs",
+            wants_source: true,
+            takes_steps: true,
+        },
+        Command::Show => Row {
+            word: b"show",
+            wants_source: false,
+            takes_steps: false,
+        },
+    }
+}
 
 /// What the words ask for: a program, and then pairs of an option and its value, in any order and each
 /// option at most once. `None` exactly where the words are refused. A value is taken as it is, also
@@ -36,7 +76,44 @@ pub fn query_of(words: &[String]) -> Option<Query<'_>>
 {
     let (program, rest) = words.split_first()?;
     let options = options_of(rest)?;
-    query_with(program.as_str(), options)
+    let command = command_of(program.as_bytes())?;
+    query_with(command, options)
+}
+
+/// The program that a word names, if any.
+fn command_of(word: &[u8]) -> Option<Command>
+    ensures { result ≡ command_of word.now }
+{
+    if row_of(Command::Degree).word == word {
+        return Some(Command::Degree);
+    }
+    if row_of(Command::Bfs).word == word {
+        return Some(Command::Bfs);
+    }
+    if row_of(Command::Show).word == word {
+        return Some(Command::Show);
+    }
+    None
+}
+
+/// A program with the options given. `None` where it does not take them, or wants a source that is
+/// not given.
+fn query_with(command: Command, options: Options<'_>) -> Option<Query<'_>>
+    ensures { option_map plain_query result ≡ query_with command (plain_options options.entry) }
+{
+    if !takes(row_of(command), options) {
+        return None;
+    }
+    Some(Query { command, options })
+}
+
+/// Whether the source is given exactly where a program of this row wants one, and a number of
+/// supersteps only where it takes one.
+fn takes(row: Row, options: Options<'_>) -> bool
+    ensures { result ≡ takes (plain_row row) (plain_options options.entry) }
+{
+    let has_source = options.source.is_some() == row.wants_source;
+    has_source && (options.steps.is_none() || row.takes_steps)
 }
 
 /// The options that the words give, in pairs of an option and its value.
@@ -99,47 +176,9 @@ fn with_steps<'w>(value: &[u8], options: Options<'w>) -> Option<Options<'w>>
 fn steps_in(value: &[u8]) -> Option<Steps>
     ensures { number_given result ≡ steps_in value.now }
 {
-    let number = number_of(value, u64::from(Steps::LIMIT))?;
+    let number = number_of(value, u64::from(STEP_LIMIT))?;
     if number == 0 {
         return None;
     }
     Some(Steps::new(number as u32))
-}
-
-/// The program that a word names, with the options given. `None` where it is no program, or does not
-/// take them.
-fn query_with<'w>(program: &str, options: Options<'w>) -> Option<Query<'w>>
-    ensures { option_map plain_query result ≡ query_with program.now (plain_options options.entry) }
-{
-    if program == "degree" {
-        return alone(Query::Degree, options);
-    }
-    if program == "show" {
-        return alone(Query::Show, options);
-    }
-    if program == "bfs" {
-        return bfs_with(options);
-    }
-    None
-}
-
-/// A program that takes no option.
-fn alone<'w>(query: Query<'w>, options: Options<'w>) -> Option<Query<'w>>
-    ensures { option_map plain_query result ≡ alone (plain_query query.entry) (plain_options options.entry) }
-{
-    if options.source.is_some() || options.steps.is_some() {
-        return None;
-    }
-    Some(query)
-}
-
-/// Breadth-first search, which must be told its source.
-fn bfs_with(options: Options<'_>) -> Option<Query<'_>>
-    ensures { option_map plain_query result ≡ bfs_with (plain_options options.entry) }
-{
-    let source = options.source?;
-    Some(Query::Bfs {
-        source,
-        steps: options.steps,
-    })
 }

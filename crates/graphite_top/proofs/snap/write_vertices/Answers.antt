@@ -2,7 +2,7 @@ use Rattle.std.proofs.Common.{◌≤◌, ◌+◌, ◌++◌, length, subst, arith
 use Rattle.graphite_top.specs.Lines.{lines_from, values_in}
 use Rattle.graphite_top.specs.Through.{Through}
 use Rattle.graphite_top.proofs.SnapLemmas.{lines_from-end}
-use Rattle.graphite_top.proofs.ThroughLemmas.{Through-start, Through-push, Through-send, AppendsFront-through, AppendsFront-part, OnErr-from}
+use Rattle.graphite_top.proofs.ThroughLemmas.{Through-start, Through-push, Through-send, AppendsPrefix-through, AppendsPrefix-part, OnErr-from}
 use Rattle.graphite_top.proofs.snap.write_vertices.Goals as goal
 
 pub loop-v-init : goal.loop-v-init
@@ -13,14 +13,14 @@ loop-v-init g c = record {
 
 pub returns-in_err-push_vertex-clause-err : goal.returns-in_err-push_vertex-clause-err
 returns-in_err-push_vertex-clause-err g c =
-    OnErr-from _ (AppendsFront-through _ _ c.loop-v.buffer.items (lines_from c.args.graph.now (values_in c.args.all.now) c.loop-v.v) _ c.loop-v.invariant.through)
+    OnErr-from _ (AppendsPrefix-through _ _ c.loop-v.buffer.items (lines_from c.args.graph.now (values_in c.args.all.now) c.loop-v.v) _ c.loop-v.invariant.through)
 
 pub returns-in_err-send_full-clause-err : goal.returns-in_err-send_full-clause-err
 returns-in_err-send_full-clause-err g c =
     let before = lines_from c.args.graph.now (values_in c.args.all.now) c.loop-v.v in
     let after = lines_from c.args.graph.now (values_in c.args.all.now) (c.loop-v.v + 1) in
     let through = Through-push _ _ c.loop-v.buffer.items before c.push_vertex.new.into.items after _ c.in_ok-push_vertex.ensures c.loop-v.invariant.through in
-    OnErr-from _ (AppendsFront-part _ _ _ c.push_vertex.new.into.items after _ c.in_err-send_full.ensures.part through)
+    OnErr-from _ (AppendsPrefix-part _ _ _ c.push_vertex.new.into.items after _ c.in_err-send_full.ensures.part through)
 
 pub loop-v-preserved : goal.loop-v-preserved
 loop-v-preserved g c =
