@@ -28,5 +28,5 @@ returns g c =
     (λ ran run start only.
     run_on_graph graph c.args.ask.now c.args.direction _ c.in_ok-table.table.lives c.in_ok-table.table.arcs c.in_ok-start.start.items len table.alive start_len started.start start only table.links
     g.P.State.Ord.cmp g.P.PointProgram.plan total exact c.args.steps ran.states.items ran.made ran.settled ran.calls
-    (run graph.horizon (end_by graph c.args.ask.now c.args.direction _ c.in_ok-table.table.lives c.in_ok-table.table.arcs c.in_ok-start.start.items len table.alive start_len started.start c.horizon.ensures.ended)))
+    (run graph.horizon (end_by graph c.args.ask.now c.args.direction _ c.in_ok-table.table.lives c.in_ok-table.table.arcs c.in_ok-start.start.items len table.alive start_len started.start c.horizon-horizon.ensures.ended)))
     c.run_points.ensures.run

@@ -15,7 +15,7 @@ returns c =
     let values = values_in c.args.all.now in
     let runs = runs_in c.args.all.now v pieces (omega (arith, c.requires.all.len, c.requires.vertex)) c.index-all-v.is c.pieces.ensures.chain in
     let nothing : (t : ℕ) → graph.horizon ≤ t → values v t ≡ None =
-    λ t h. c.requires.all.alive v t c.requires.vertex (c.horizon.ensures.ended v t c.requires.vertex h)
+    λ t h. c.requires.all.alive v t c.requires.vertex (c.horizon-horizon.ensures.ended v t c.requires.vertex h)
     in
     let step = vertex_step graph values v name pieces c.vertex_name.ensures runs nothing in
     ap (λ xs. xs ++ lines_from graph values (v + 1)) (c.in_ok-push_lines.ensures ∙ ap (λ ps. old ++ flat_map (run_line name) (map run_of ps)) c.pieces.ensures.pieces)
