@@ -22,7 +22,7 @@ use Rattle.graphite_graph.specs.Ends.{edge_ends}
 use Rattle.graphite_graph.proofs.LifeLemmas.{is_alive-as_span}
 use Rattle.graphite_props.specs.Properties.{is_property_of, has_property}
 use Rattle.graphite_api.specs.declared.arc.Arc.{Arc}
-use Rattle.graphite_api.proofs.LeftLemmas.{range_more}
+use Rattle.graphite_api.proofs.RangeLemmas.{range_more}
 use Rattle.graphite_hops.specs.Arcs.{travel_at, arc_between, arc_on, AreArcsOf, EdgeAdded, IsArcIn}
 use Rattle.graphite_hops.specs.Links.{ends_of}
 use Rattle.graphite_hops.specs.Overlay.{paired}
