@@ -68,14 +68,13 @@ impl<'a> Open<'a> {
         ensures { IfOk result (λ store. store ≡ self.entry) }
     {
         let Open {
-            mut store,
+            store,
             vertex_rows,
             edge_rows,
         } = self;
         let vertex_props = Timelines::of_rows(vertex_rows)?;
         let edge_props = Timelines::of_rows(edge_rows)?;
-        store.set_properties(vertex_props, edge_props);
-        Ok(store)
+        Ok(store.completed(vertex_props, edge_props))
     }
 
     /// Moves the horizon of a graph with no vertices.

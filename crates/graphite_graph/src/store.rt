@@ -94,14 +94,35 @@ impl<'a> Store<'a> {
         self.horizon = horizon;
     }
 
-    /// Puts these properties in place of those that were there.
-    pub(crate) fn set_properties(&mut self, vertex_props: Timelines<'a>, edge_props: Timelines<'a>)
-        requires of_vertices { AreOwned (length self.old.vertices) vertex_props }
-        requires of_edges { AreOwned (length self.old.edges) edge_props }
-        ensures { self.new ≡ with_properties self.old vertex_props.entry edge_props.entry }
+    /// The same vertices and edges with these properties.
+    pub(crate) fn completed(
+        self,
+        vertex_props: Timelines<'a>,
+        edge_props: Timelines<'a>,
+    ) -> Store<'a>
+        requires of_vertices { AreOwned (length self.vertices) vertex_props }
+        requires of_edges { AreOwned (length self.edges) edge_props }
+        ensures { result ≡ with_properties self.entry vertex_props.entry edge_props.entry }
     {
-        self.vertex_props = vertex_props;
-        self.edge_props = edge_props;
+        let Store {
+            horizon,
+            vertex_names,
+            vertex_lives,
+            edge_names,
+            edge_ends,
+            edge_lives,
+            ..
+        } = self;
+        Store {
+            horizon,
+            vertex_names,
+            vertex_lives,
+            edge_names,
+            edge_ends,
+            edge_lives,
+            vertex_props,
+            edge_props,
+        }
     }
 
     /// Adds a vertex with one lifespan, and answers `true`, where its name is new. Where it is not,
