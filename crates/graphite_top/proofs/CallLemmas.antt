@@ -1,9 +1,9 @@
--- What a call owes where the text is longer than a text may be.
+-- What a call owes for a text of the source, and where the text is longer than a text may be.
 use Rattle.std.proofs.Common.{◌≡◌, ◌≢◌, ℕ, ◌+◌, ◌<◌, false, List, length, Option, Some, None, refl, sym, ap, subst, arith, leb, IfSome}
 use Rattle.std.proofs.lemmas.Bool.{cond-false}
 use Rattle.std.proofs.lemmas.Bool.Decides.{nat_tests}
 use Rattle.graphite_base.specs.Causes.{Rose}
-use Rattle.graphite_base.specs.Known.{TookJust}
+use Rattle.graphite_base.specs.Known.{IsWhole, TookJust}
 use Rattle.graphite_base.proofs.KnownLemmas.{TookJust-length}
 use Rattle.graphite_text.specs.Reading.{Refused, reading_of, text_limit}
 use Rattle.graphite_top.specs.declared.status.Status.{Status}
@@ -45,3 +45,9 @@ for_too_long P words query None rest accepted took h = subst (λ q. IfSome (quer
 for_too_long P words query (Some bytes) rest accepted took h =
     let long : text_limit < length bytes = omega (arith, TookJust-length bytes rest (text_limit + 1) took) in
     subst (λ q. IfSome (query_answer q (Some bytes)) P) (sym accepted) (subst P (sym (too_long query bytes long)) h)
+
+-- what is said of the answer to a text is said of the output, where the bytes of the source are that text
+pub for_whole : (P : Answer → Type 0) (words : List (List ℕ)) (query : PlainQuery) (left rest : Option (List ℕ)) (text : List ℕ) → query_of words ≡ Some query → IsWhole left rest text → P (text_answer query text) → IfSome (output_of words left) P
+for_whole P words query None rest text accepted whole h = subst (λ q. IfSome (query_answer q None) P) (sym accepted) tt
+for_whole P words query (Some bytes) rest text accepted whole h =
+    subst (λ q. IfSome (query_answer q (Some bytes)) P) (sym accepted) (subst (λ bs. P (text_answer query bs)) (sym whole.0) h)
