@@ -9,7 +9,7 @@ use Rattle.graphite_top.specs.Output.{output_of}
 use Rattle.graphite_top.specs.Words.{NamesSource, query_of}
 
 -- the words that come after the program's own name
-abbrev pub words_of : List String → List (List ℕ)
+abbrev pub words_of : {Z : Type 0} → List (String Z) → List (List ℕ)
 words_of given = map string_bytes (drop 1 given)
 
 -- What `run` promises of a call with these words that ended with this status: the whole answer to the

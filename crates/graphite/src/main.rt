@@ -38,7 +38,7 @@ fn code_without_words(cause: ErrorKind) -> u8
 fn words_after_name(alloc: Global, given: Args) -> Result<Vec<String>, AllocError>
     ensures { IfOk result (λ words. words.items ≡ drop 1 (into_iter_items given)) }
 {
-    Ok(given.skip(1).collect(alloc)?)
+    given.skip(1).collect(alloc)
 }
 
 /// Does what the words ask for.
