@@ -4,7 +4,7 @@
     bench/fail_alloc.py [--program PATH] TEXT WORD..
 
 The program is run with the words on the file TEXT once for each request that it makes, and that
-request is refused. The answer has to be the run's own, or status 7 with a front of its text. Needs
+request is refused. The answer has to be the run's own, or status 7 with a prefix of its text. Needs
 a C compiler: a small library stands before the system's calls for memory.
 """
 import argparse
@@ -69,13 +69,13 @@ def main():
         own = run(0)
         with open(told) as file:
             requests = int(file.read())
-        counts = {'own answer': 0, 'status 7, nothing written': 0, 'status 7, a front written': 0, 'OTHER': 0}
+        counts = {'own answer': 0, 'status 7, nothing written': 0, 'status 7, a prefix written': 0, 'OTHER': 0}
         for refused in range(1, requests + 1):
             status, written = run(refused)
             if (status, written) == own:
                 counts['own answer'] += 1
             elif status == 7 and own[1].startswith(written):
-                counts['status 7, a front written' if written else 'status 7, nothing written'] += 1
+                counts['status 7, a prefix written' if written else 'status 7, nothing written'] += 1
             else:
                 counts['OTHER'] += 1
     print('%d requests: %s' % (requests, ', '.join('%s %d' % pair for pair in counts.items())))
