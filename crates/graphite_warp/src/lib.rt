@@ -7,6 +7,7 @@ mod laws;
 mod message;
 mod ordered;
 mod sort;
+mod sweep;
 #[cfg(test)]
 mod tests;
 mod touch;
@@ -19,5 +20,6 @@ pub use laws::{
 };
 pub use message::Message;
 pub use sort::sort_notes;
+pub use sweep::Sweep;
 pub use touch::Touch;
 pub use triple::Triple;
