@@ -1,4 +1,5 @@
 pub mod Aligned
 pub mod Ordered
 pub mod Sorted
+pub mod Sweep
 pub mod Warp
