@@ -1,23 +1,25 @@
 -- Pieces that are made of other pieces, one after another; and the pieces whose values pass a test.
-use Rattle.std.proofs.Common.{◌≡◌, ℕ, zero, suc, ◌+◌, ◌<◌, ◌≤◌, Bool, true, false, List, [], ◌∷◌, length, get_or, take, filter, Option, Some, None, option_map, cond, refl, sym, ◌∙◌, ap, subst, arith, ⊎_elim, inr, Result, Ok, Err, IfOk, OnErr}
+use Rattle.std.proofs.Common.{◌≡◌, ℕ, zero, suc, ◌+◌, ◌-◌, ◌<◌, ◌≤◌, Bool, true, false, List, [], ◌∷◌, length, get_or, slice_get, take, filter, Option, Some, None, option_map, cond, refl, sym, ◌∙◌, ap, subst, arith, ⊎_elim, inr, Result, Ok, Err, IfOk, OnErr}
 use Rattle.std.specs.Option.{option_and_then}
 use Rattle.std.proofs.lemmas.Bool.{cond-true, cond-false, cases_lt}
-use Rattle.std.proofs.lemmas.List.{length-take-le}
+use Rattle.std.proofs.lemmas.List.{length-take-le, take_all}
+use Rattle.std.proofs.lemmas.Option.{slice_get_within, get_or_from_slice_get}
 use Rattle.std.proofs.lemmas.List.Filters.{length-filter_more}
 use Rattle.std.specs.declared.cmp.Ordering.{Ordering}
-use Rattle.graphite_time.specs.Interval.{start_of, holds}
+use Rattle.graphite_time.specs.Interval.{start_of, end_of, holds}
 use Rattle.graphite_time.proofs.LifeLemmas.{holds-true, holds_before}
 use Rattle.graphite_part.specs.declared.piece.Piece.{Piece}
-use Rattle.graphite_part.specs.Pieces.{value_at, IsChain, StandsBefore, AreRuns, last_end}
-use Rattle.graphite_part.proofs.CopyLemmas.{next_piece}
+use Rattle.graphite_part.specs.Pieces.{value_at, IsChain, StandsBefore, AreRuns, last_end, last_end_from}
+use Rattle.graphite_part.proofs.CopyLemmas.{next_piece, last_end_from-LAST}
 use Rattle.graphite_part.proofs.FillLemmas.{value_at-past}
 use Rattle.graphite_part.proofs.PiecesLemmas.{value_at-tail}
 use Rattle.graphite_part.proofs.CopyLemmas.{IsChain-take}
 use Rattle.graphite_api.specs.declared.next.Next.{Next}
 use Rattle.graphite_warp.specs.declared.message.Message.{Message}
 use Rattle.graphite_warp.specs.declared.touch.Touch.TheVariants.{All}
+use Rattle.graphite_warp.specs.Aligned.{Aligned, IsNext}
 use Rattle.graphite_warp.specs.Warp.{notes_at, warped}
-use Rattle.graphite_api.specs.Rules.{Rules, outcome_at, state_of, input_of}
+use Rattle.graphite_api.specs.Rules.{Rules, computes, outcome_with, outcome_at, state_of, input_of}
 use Rattle.graphite_loop.specs.Sweep.{sent_of}
 use Rattle.graphite_loop.specs.Vertex.{outcome_of, input_to, Calls, NoMoreCalls, outcome_of_pair, next_state, sent_state, pair_computes, inputs_of, Put, AreMade}
 
@@ -169,10 +171,86 @@ pub few_inputs : {S M : Type 0} (rules : Rules S M) (k : ℕ) (triples : List (P
 few_inputs rules k triples i within =
     omega (arith, length-filter-le (λ (x : Piece _). pair_computes rules k x.value) (take i triples), length-take-le i triples within)
 
+-- a chain has no more pieces than there are instants
+chain_fits : {X : Type 0} (piece : Piece X) (pieces : List (Piece X)) → IsChain (piece ∷ pieces) → end_of piece.over + length pieces ≤ last_end_from (end_of piece.over) pieces
+chain_fits piece [] chain = omega arith
+chain_fits piece (next ∷ pieces) chain =
+    omega (arith, chain_fits next pieces chain.1, chain.0.0, next.over.proper.0)
+
+pub few_pieces : {X : Type 0} (pieces : List (Piece X)) → IsChain pieces → length pieces < 18446744073709551616
+few_pieces [] chain = omega arith
+few_pieces (piece ∷ pieces) chain =
+    omega (arith, chain_fits piece pieces chain, piece.over.proper.0, last_end_from-LAST (end_of piece.over) pieces piece.over.proper.1)
+
+-- so far no more calls than for all triples, and no more than a word counts
+pub few_calls : {S M : Type 0} (rules : Rules S M) (k : ℕ) (triples : List (Piece (S × List M))) (before now i : ℕ) → IsChain triples → i ≤ length triples → now ≡ before + length (inputs_of rules k (take i triples)) → (now ≤ before + length (inputs_of rules k triples)) × (now < before + 18446744073709551616)
+few_calls rules k triples before now i chain within counted = (
+  omega (arith, no_more rules k triples i, counted),
+  omega (arith, few_inputs rules k triples i within, counted, few_pieces triples chain, within),
+)
+
+-- the triples that were handed out so far were computed
+pub record AreComputed {S M : Type 0} (rules : Rules S M) (k : ℕ) (triples : List (Piece (S × List M))) (now : Aligned S M) (states sent : List (Piece S)) (before count : ℕ) : Type 0 where
+  pub same : now.triples ≡ triples
+  pub within : now.place ≤ length triples
+  pub made : HaveComputed rules k (take now.place triples) states sent before count
+
+pub AreComputed-none : {S M : Type 0} (rules : Rules S M) (k : ℕ) (now : Aligned S M) (states sent : List (Piece S)) (count : ℕ) → now.place ≡ 0 → states ≡ [] → sent ≡ [] → AreComputed rules k now.triples now states sent count count
+AreComputed-none rules k now states sent count begun none none' = record {
+  same = refl;
+  within = omega (arith, begun);
+  made = subst (λ n. HaveComputed rules k (take n now.triples) states sent count count) (sym begun) (HaveComputed-none rules k states sent count none none');
+}
+
+-- the triple that is handed out next
+module _ {S M : Type 0} (rules : Rules S M) (k : ℕ) (triples : List (Piece (S × List M))) (old new : Aligned S M) (states sent : List (Piece S)) (before mid : ℕ) (part : Piece S) (given : Option (Piece S)) (is : given ≡ Some part) (chain : IsChain triples) (so_far : AreComputed rules k triples old states sent before mid) (handed_out : IsNext old given new) where
+  step : IsNext old (Some part) new
+  step = subst (λ o. IsNext old o new) is handed_out
+
+  abbrev triple_of : Piece (S × List M)
+  triple_of = record { over = part.over; value = (part.value, new.group) }
+
+  at_place : slice_get triples old.place ≡ Some triple_of
+  at_place = subst (λ xs. slice_get xs old.place ≡ Some triple_of) so_far.same step.0
+
+  pub place_within : old.place < length triples
+  place_within = slice_get_within triples old.place triple_of at_place
+
+  triple_is : triple_of ≡ get_or triples old.place triple_of
+  triple_is = sym (get_or_from_slice_get triples old.place triple_of triple_of at_place)
+
+  pub next_state_put : last_end states ≤ start_of part.over
+  next_state_put = next_put _ triples states old.place triple_of chain place_within triple_is so_far.made.states_are
+
+  pub next_sent_put : last_end sent ≤ start_of part.over
+  next_sent_put = next_put _ triples sent old.place triple_of chain place_within triple_is so_far.made.sent_are
+
+  pub next_smaller : new.triples ≡ old.triples → length new.triples - new.place < length old.triples - old.place
+  next_smaller kept = omega (arith, ap length kept, ap length so_far.same, step.1, place_within)
+
+  -- the calls, where the triple was computed
+  pub next_counted : (now : ℕ) → now ≡ mid + cond (computes rules k new.group) 1 0 → (now ≤ before + length (inputs_of rules k triples)) × (now < before + 18446744073709551616)
+  next_counted now count =
+      few_calls rules k triples before now (old.place + 1) chain (omega (arith, place_within))
+      (count_more rules k triples before mid now old.place triple_of place_within triple_is so_far.made.counted count)
+
+  pub AreComputed-more : (states' sent' : List (Piece S)) (now : ℕ) (next : Next S) → new.triples ≡ old.triples → next ≡ outcome_with rules k part.value new.group → now ≡ mid + cond (computes rules k new.group) 1 0 → Put states states' part.over (next_state next) → Put sent sent' part.over (sent_state next) → AreComputed rules k triples new states' sent' before now
+  AreComputed-more states' sent' now next kept answer count put put' = record {
+    same = kept ∙ so_far.same;
+    within = omega (arith, step.1, place_within);
+    made = subst (λ n. HaveComputed rules k (take n triples) states' sent' before now) (sym step.1) (HaveComputed-more rules k triples states sent states' sent' before mid now old.place triple_of next chain place_within triple_is so_far.made answer count put put');
+  }
+
+-- all triples were handed out
+pub AreComputed-all : {S M : Type 0} (rules : Rules S M) (k : ℕ) (triples : List (Piece (S × List M))) (old new : Aligned S M) (states sent : List (Piece S)) (before count : ℕ) (given : Option (Piece S)) → given ≡ None → AreComputed rules k triples old states sent before count → IsNext old given new → HaveComputed rules k triples states sent before count
+AreComputed-all rules k triples old new states sent before count given is so_far handed_out =
+    let past = subst (λ o. IsNext old o new) is handed_out in
+    subst (λ xs. HaveComputed rules k xs states sent before count) (take_all old.place triples (omega (arith, past, ap length so_far.same))) so_far.made
+
 -- states that were aligned with an inbox, by an order of notes that is another's
-pub aligned : {S M : Type 0} (cmp order : M → M → Ordering) (pieces : List (Piece S)) (inbox : List (Message M)) (made triples : List (Piece (S × List M))) → cmp ≡ order → triples ≡ made → AreRuns (warped cmp All (value_at pieces) inbox) made → AreRuns (warped order All (value_at pieces) inbox) triples
-aligned cmp order pieces inbox made triples same is runs =
-    subst (λ cmp. AreRuns (warped cmp All (value_at pieces) inbox) triples) same (subst (AreRuns (warped cmp All (value_at pieces) inbox)) (sym is) runs)
+pub aligned : {S M : Type 0} (cmp order : M → M → Ordering) (pieces : List (Piece S)) (inbox : List (Message M)) (triples : List (Piece (S × List M))) → cmp ≡ order → AreRuns (warped cmp All (value_at pieces) inbox) triples → AreRuns (warped order All (value_at pieces) inbox) triples
+aligned cmp order pieces inbox triples same runs =
+    subst (λ cmp. AreRuns (warped cmp All (value_at pieces) inbox) triples) same runs
 
 -- what was made of the triples of a vertex's states and inbox are its states and what it sends, and the
 -- triples that compute are its inputs

@@ -9,7 +9,7 @@ ghost use Rattle.graphite_loop.specs.Vertex.{outcome_of, outcome_of_pair, next_s
 use graphite_api::{Message, Next, Program};
 use graphite_part::{Partition, Plain};
 use graphite_time::{Interval, NoMemory};
-use graphite_warp::{Touch, Triple, warp};
+use graphite_warp::Sweep;
 use std::alloc::Global;
 
 /// The outcome of a superstep for a vertex: its states, and those of them that it sends.
@@ -19,13 +19,15 @@ pub(crate) struct Outcome<S: Plain> {
     pub sent: Partition<S>,
 }
 
-/// Makes a superstep at a vertex that has these states and these messages.
+/// Makes a superstep at a vertex that has these states and these messages. The sweep is lent: what it
+/// had before does not matter.
 pub(crate) fn compute_vertex<P: Program>(
     alloc: Global,
     program: &mut P,
     step: u32,
     states: &Partition<P::State>,
     messages: &[Message<P::Note>],
+    sweep: &mut Sweep<P::State, P::Note>,
 ) -> Result<Outcome<P::State>, NoMemory>
     requires step { 1 ≤ step }
     requires room { P.count program.old + 2 ^ 64 < 2 ^ 128 }
@@ -41,37 +43,38 @@ pub(crate) fn compute_vertex<P: Program>(
         (P.count program.old) (P.count program.new)) }
     ensures few { P.count program.new ≤ P.count program.old + 2 ^ 64 }
 {
-    let triples = warp(alloc, states, messages, Touch::All)?;
-    compute_parts(alloc, program, step, &triples)
+    sweep.align(states, messages)?;
+    compute_parts(alloc, program, step, sweep)
 }
 
-/// Makes a superstep at a vertex whose states were aligned with its messages.
+/// Makes a superstep at a vertex whose states were aligned with its messages, one triple at a time.
 fn compute_parts<P: Program>(
     alloc: Global,
     program: &mut P,
     step: u32,
-    triples: &[Triple<P::State, P::Note>],
+    sweep: &mut Sweep<P::State, P::Note>,
 ) -> Result<Outcome<P::State>, NoMemory>
     requires step { 1 ≤ step }
     requires room { P.count program.old + 2 ^ 64 < 2 ^ 128 }
-    requires chain { IsChain triples.now }
+    requires chain { IsChain sweep.old.triples }
+    requires none_yet { sweep.old.place ≡ 0 }
     ensures states { IfOk result (λ outcome. AreMade (λ pair. next_state (outcome_of_pair
-        P.rules step pair)) triples.now outcome.states) }
+        P.rules step pair)) sweep.old.triples outcome.states) }
     ensures sent { IfOk result (λ outcome. AreMade (λ pair. sent_state (outcome_of_pair
-        P.rules step pair)) triples.now outcome.sent) }
+        P.rules step pair)) sweep.old.triples outcome.sent) }
     ensures counted { IfOk result (λ _. P.count program.new ≡ P.count program.old
-        + length (inputs_of P.rules step triples.now)) }
+        + length (inputs_of P.rules step sweep.old.triples)) }
     ensures at_most { P.count program.new ≤ P.count program.old
-        + length (inputs_of P.rules step triples.now) }
+        + length (inputs_of P.rules step sweep.old.triples) }
     ensures few { P.count program.new ≤ P.count program.old + 2 ^ 64 }
 {
     let mut outcome = Outcome {
         states: Partition::new(alloc),
         sent: Partition::new(alloc),
     };
-    for triple in triples {
-        let next = compute_part(program, step, triple.state(), triple.group());
-        push_part(&mut outcome, triple.over(), next)?;
+    while let Some(part) = sweep.next_part()? {
+        let next = compute_part(program, step, part.value, sweep.group());
+        push_part(&mut outcome, part.over, next)?;
     }
     Ok(outcome)
 }

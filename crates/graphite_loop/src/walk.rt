@@ -13,6 +13,7 @@ use crate::vertex::compute_vertex;
 use graphite_api::{Arc, ArcTable, Message, Program};
 use graphite_part::{Partition, Plain};
 use graphite_time::NoMemory;
+use graphite_warp::Sweep;
 use std::alloc::Global;
 
 /// What a superstep makes: the states and the deliveries after it, and whether a vertex sends.
@@ -21,6 +22,13 @@ pub(crate) struct Made<S: Plain, M: Plain> {
     pub states: Vec<Partition<S>>,
     pub deliveries: Vec<Delivery<M>>,
     pub sends: bool,
+}
+
+/// What is lent from vertex to vertex, so that the memory that one took serves the next.
+#[derive(Drop)]
+struct Buffers<S: Plain, M: Plain> {
+    sweep: Sweep<S, M>,
+    messages: Vec<Message<M>>,
 }
 
 /// Makes superstep `step`: only the vertices that compute, and the arcs of those that send, are
@@ -51,12 +59,16 @@ fn walk<P: Program>(
         deliveries: Vec::new(alloc),
         sends: false,
     };
+    let mut buffers = Buffers {
+        sweep: Sweep::new(alloc),
+        messages: Vec::new(alloc),
+    };
     let mut rest = deliveries;
     let mut next = 0;
     while let Some(v) = next_vertex::<P>(step, rest, next, table.vertices()) {
         let own = deliveries_to(rest, v);
         step_vertex(
-            alloc,
+            &mut buffers,
             table.arcs_of(v),
             program,
             step,
@@ -118,7 +130,7 @@ fn deliveries_to<M: Plain>(deliveries: &[Delivery<M>], v: u32) -> usize
 
 /// Makes a superstep at a vertex, to which these are the deliveries and out of which these arcs lead.
 fn step_vertex<P: Program>(
-    alloc: Global,
+    buffers: &mut Buffers<P::State, P::Note>,
     arcs: &[Arc],
     program: &mut P,
     step: u32,
@@ -139,23 +151,32 @@ fn step_vertex<P: Program>(
         (P.count program.old) (P.count program.new)) }
     ensures few { P.count program.new ≤ P.count program.old + 2 ^ 64 }
 {
-    let messages = messages_of(alloc, deliveries)?;
-    let outcome = compute_vertex(alloc, program, step, &made.states[v as usize], &messages)?;
+    let alloc = *made.deliveries.allocator();
+    copy_messages(&mut buffers.messages, deliveries)?;
+    let outcome = compute_vertex(
+        alloc,
+        program,
+        step,
+        &made.states[v as usize],
+        &buffers.messages,
+        &mut buffers.sweep,
+    )?;
     made.states[v as usize] = outcome.states;
     scatter(program, arcs, outcome.sent.pieces(), &mut made.deliveries)?;
     made.sends = made.sends || !outcome.sent.pieces().is_empty();
     Ok(())
 }
 
-/// The messages in deliveries.
-fn messages_of<M: Plain>(
-    alloc: Global,
+/// Puts the messages in deliveries in place of others.
+fn copy_messages<M: Plain>(
+    messages: &mut Vec<Message<M>>,
     deliveries: &[Delivery<M>],
-) -> Result<Vec<Message<M>>, NoMemory>
-    ensures { IfOk result (λ messages. messages.items ≡ map message_of deliveries.now) }
+) -> Result<(), NoMemory>
+    ensures { OnOk result (messages.new.items ≡ map message_of deliveries.now) }
 {
-    let messages = deliveries.iter().map(|delivery| delivery.message);
-    Ok(messages.collect(alloc)?)
+    messages.clear();
+    messages.extend(deliveries.iter().map(|delivery| delivery.message))?;
+    Ok(())
 }
 
 /// Makes superstep `step` from these states and deliveries, which it takes.

@@ -1,9 +1,12 @@
 -- The triples so far were computed.
-use Rattle.std.proofs.Common.{take}
-use Rattle.graphite_loop.proofs.PartLemmas.{HaveComputed}
+use Rattle.std.proofs.Common.{◌-◌, length}
+use Rattle.graphite_loop.proofs.PartLemmas.{AreComputed}
 use Rattle.graphite_loop.proofs.vertex.compute_parts.Given as goal
 
--- the triples so far were computed
-abbrev pub invariant-loop-triple : goal.invariant-loop-triple
-invariant-loop-triple g l =
-    HaveComputed g.P.Program.rules l.step (take l.triple-index l.triples) l.outcome.states l.outcome.sent (g.P.Program.count l.initial.program) (g.P.Program.count l.program)
+-- the triples that were handed out so far were computed
+abbrev pub invariant-loop-outcome : goal.invariant-loop-outcome
+invariant-loop-outcome g l =
+    AreComputed g.P.Program.rules l.step l.initial.sweep.triples l.sweep l.outcome.states l.outcome.sent (g.P.Program.count l.initial.program) (g.P.Program.count l.program)
+
+abbrev pub decreases-loop-outcome : goal.decreases-loop-outcome
+decreases-loop-outcome g l = length l.sweep.triples - l.sweep.place

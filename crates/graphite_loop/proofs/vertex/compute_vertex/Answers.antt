@@ -1,28 +1,23 @@
 -- The triples are the maximal runs of state and group of the vertex.
-use Rattle.std.proofs.Common.{sym, subst}
-use Rattle.graphite_part.specs.Pieces.{IsChain}
 use Rattle.graphite_loop.proofs.PartLemmas.{aligned, IfOk-then, OnErr-from, states-made, sent-made, Calls-made, NoMoreCalls-made}
 use Rattle.graphite_loop.proofs.vertex.compute_vertex.Goals as goal
 
-pub compute_parts-requires-clause-chain : goal.compute_parts-requires-clause-chain
-compute_parts-requires-clause-chain g c = subst IsChain (sym c.deref.ensures.value) c.in_ok-triples.ensures.in_order
-
 pub returns-clause-states : goal.returns-clause-states
 returns-clause-states g c =
-    let runs = aligned g.P.Note.Ord.cmp g.P.Program.rules.order c.args.states.now c.args.messages.now _ c.deref.result.now g.met.P.Program.order_is c.deref.ensures.value c.in_ok-triples.ensures in
-    IfOk-then c.compute_parts.result _ _ c.compute_parts.ensures.states (λ outcome made. states-made g.P.Program.rules c.args.step c.args.states.now c.args.messages.now c.deref.result.now runs outcome.states made)
+    let runs = aligned g.P.Note.Ord.cmp g.P.Program.rules.order c.args.states.now c.args.messages.now c.align.new.self.triples g.met.P.Program.order_is c.in_ok-align.ensures.triples in
+    IfOk-then c.compute_parts.result _ _ c.compute_parts.ensures.states (λ outcome made. states-made g.P.Program.rules c.args.step c.args.states.now c.args.messages.now c.align.new.self.triples runs outcome.states made)
 
 pub returns-clause-sent : goal.returns-clause-sent
 returns-clause-sent g c =
-    let runs = aligned g.P.Note.Ord.cmp g.P.Program.rules.order c.args.states.now c.args.messages.now _ c.deref.result.now g.met.P.Program.order_is c.deref.ensures.value c.in_ok-triples.ensures in
-    IfOk-then c.compute_parts.result _ _ c.compute_parts.ensures.sent (λ outcome made. sent-made g.P.Program.rules c.args.step c.args.states.now c.args.messages.now c.deref.result.now runs outcome.sent made)
+    let runs = aligned g.P.Note.Ord.cmp g.P.Program.rules.order c.args.states.now c.args.messages.now c.align.new.self.triples g.met.P.Program.order_is c.in_ok-align.ensures.triples in
+    IfOk-then c.compute_parts.result _ _ c.compute_parts.ensures.sent (λ outcome made. sent-made g.P.Program.rules c.args.step c.args.states.now c.args.messages.now c.align.new.self.triples runs outcome.sent made)
 
 pub returns-clause-counted : goal.returns-clause-counted
 returns-clause-counted g c =
-    let runs = aligned g.P.Note.Ord.cmp g.P.Program.rules.order c.args.states.now c.args.messages.now _ c.deref.result.now g.met.P.Program.order_is c.deref.ensures.value c.in_ok-triples.ensures in
-    IfOk-then c.compute_parts.result _ _ c.compute_parts.ensures.counted (λ outcome counted. Calls-made g.P.Program.rules c.args.step c.args.states.now c.args.messages.now c.deref.result.now runs _ _ counted)
+    let runs = aligned g.P.Note.Ord.cmp g.P.Program.rules.order c.args.states.now c.args.messages.now c.align.new.self.triples g.met.P.Program.order_is c.in_ok-align.ensures.triples in
+    IfOk-then c.compute_parts.result _ _ c.compute_parts.ensures.counted (λ outcome counted. Calls-made g.P.Program.rules c.args.step c.args.states.now c.args.messages.now c.align.new.self.triples runs (g.P.Program.count c.args.program.now) (g.P.Program.count c.compute_parts.new.program) counted)
 
 pub returns-clause-at_most : goal.returns-clause-at_most
 returns-clause-at_most g c =
-    let runs = aligned g.P.Note.Ord.cmp g.P.Program.rules.order c.args.states.now c.args.messages.now _ c.deref.result.now g.met.P.Program.order_is c.deref.ensures.value c.in_ok-triples.ensures in
-    OnErr-from c.compute_parts.result _ (NoMoreCalls-made g.P.Program.rules c.args.step c.args.states.now c.args.messages.now c.deref.result.now runs _ _ c.compute_parts.ensures.at_most)
+    let runs = aligned g.P.Note.Ord.cmp g.P.Program.rules.order c.args.states.now c.args.messages.now c.align.new.self.triples g.met.P.Program.order_is c.in_ok-align.ensures.triples in
+    OnErr-from c.compute_parts.result _ (NoMoreCalls-made g.P.Program.rules c.args.step c.args.states.now c.args.messages.now c.align.new.self.triples runs (g.P.Program.count c.args.program.now) (g.P.Program.count c.compute_parts.new.program) c.compute_parts.ensures.at_most)
