@@ -1,4 +1,5 @@
 pub mod Examples
+pub mod GroupLemmas
 pub mod LawLemmas
 pub mod OrderedLemmas
 pub mod SortedLemmas

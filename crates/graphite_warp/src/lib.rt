@@ -3,6 +3,7 @@
 
 mod align;
 mod ends;
+mod group;
 mod laws;
 mod message;
 mod ordered;
