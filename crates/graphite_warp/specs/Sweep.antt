@@ -21,6 +21,10 @@ pub record AreChanges {M : Type 0} (cmp : M → M → Ordering) (messages : List
   pub steady : (t : ℕ) → All (λ change. change ≢ t + 1) changes → notes_at cmp messages (t + 1) ≡ notes_at cmp messages t
   pub real : (t : ℕ) → Contains changes (t + 1) → notes_at cmp messages (t + 1) ≢ notes_at cmp messages t
 
+-- how often the note is in the list
+abbrev pub times_in : {M : Type 0} → (M → M → Ordering) → M → List M → ℕ
+times_in cmp note notes = count_by (λ y. is_eq (cmp note y)) notes
+
 -- how many of the messages have the note
 abbrev pub noted : {M : Type 0} → (M → M → Ordering) → M → List (Message M) → ℕ
 noted cmp note messages = count_by (λ m. is_eq (cmp note m.note)) messages
@@ -33,4 +37,4 @@ pub record IsGroup {M : Type 0} (cmp : M → M → Ordering) (starts stops : Lis
   pub have_begun : AllWithin (λ m. start_of m.over ≤ at) starts 0 begun
   pub have_ended : AllWithin (λ m. end_of m.over ≤ at) stops 0 ended
   pub rise : IsSorted cmp notes
-  pub counts : (note : M) → count_by (λ y. is_eq (cmp note y)) notes + noted cmp note (take ended stops) ≡ noted cmp note (take begun starts)
+  pub counts : (note : M) → times_in cmp note notes + noted cmp note (take ended stops) ≡ noted cmp note (take begun starts)
