@@ -7,6 +7,7 @@ mod group;
 mod laws;
 mod message;
 mod ordered;
+mod sides;
 mod sort;
 mod sweep;
 #[cfg(test)]
