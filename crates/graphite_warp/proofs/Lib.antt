@@ -1,3 +1,5 @@
+pub mod ChangeLemmas
+pub mod CountLemmas
 pub mod Examples
 pub mod GroupLemmas
 pub mod LawLemmas

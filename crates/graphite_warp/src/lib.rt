@@ -2,6 +2,7 @@
 #![tactic(auto)]
 
 mod align;
+mod changes;
 mod ends;
 mod group;
 mod laws;

@@ -91,7 +91,7 @@ pub(crate) fn push_triple<S: Plain, M: Plain>(
 }
 
 /// Whether two lists of notes are the same.
-fn are_same<M: Plain>(xs: &[M], ys: &[M]) -> bool
+pub(crate) fn are_same<M: Plain>(xs: &[M], ys: &[M]) -> bool
     ensures { IsTrue result ↔ (xs.now ≡ ys.now) }
 {
     xs == ys

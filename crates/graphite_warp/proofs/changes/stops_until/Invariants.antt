@@ -1,0 +1,9 @@
+-- The messages so far end at the instant.
+use Rattle.std.specs.List.{AllWithin}
+use Rattle.std.proofs.Common.{◌≡◌}
+use Rattle.graphite_time.specs.Interval.{end_of}
+use Rattle.graphite_warp.proofs.changes.stops_until.Given as goal
+
+-- each message up to the place ends then
+abbrev pub invariant-loop-place : goal.invariant-loop-place
+invariant-loop-place g l = AllWithin (λ m. end_of m.over ≡ l.t) l.messages l.from l.place
