@@ -5,6 +5,7 @@ use Rattle.std.specs.List.{Contains, AllWithin, count_by}
 use Rattle.std.specs.List.Sorted.{IsNonDecreasing, IsNonDecreasingBy, IsPermutation, IsSorted}
 use Rattle.std.specs.Ordering.{is_eq}
 use Rattle.std.specs.Prelude.{◌≡◌, ◌≢◌, ℕ, ◌+◌, List, All}
+use Rattle.std.specs.Prelude.{◌≡◌, ◌≢◌, ℕ, ◌+◌, ◌<◌, ◌≤◌, List, All, length, map, take, slice_index_or}
 use Rattle.std.specs.List.{Contains}
 use Rattle.std.specs.List.Sorted.{IsNonDecreasing, IsNonDecreasingBy, IsPermutation}
 use Rattle.std.specs.declared.cmp.Ordering.{Ordering}
@@ -17,6 +18,11 @@ pub record AreEnds {M : Type 0} (starts stops : List (Message M)) : Type 0 where
   pub by_start : IsNonDecreasingBy (λ m. start_of m.over) starts
   pub by_end : IsNonDecreasingBy (λ m. end_of m.over) stops
   pub same : IsPermutation starts stops
+
+-- the two lists of one load of messages
+pub record Sided (M : Type 0) : Type 0 where
+  pub starts : List (Message M)
+  pub stops : List (Message M)
 
 -- the instants at which the notes that hold are others than at the instant before
 pub record AreChanges {M : Type 0} (cmp : M → M → Ordering) (messages : List (Message M)) (changes : List ℕ) : Type 0 where
