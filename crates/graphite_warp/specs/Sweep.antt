@@ -51,3 +51,4 @@ pub record IsGroup {M : Type 0} (cmp : M → M → Ordering) (starts stops : Lis
 pub record Sided (M : Type 0) : Type 0 where
   pub starts : List (Message M)
   pub stops : List (Message M)
+  pub counts : (note : M) → count_by (λ y. is_eq (cmp note y)) notes + noted cmp note (take ended stops) ≡ noted cmp note (take begun starts)
