@@ -4,6 +4,7 @@ pub mod Examples
 pub mod GroupLemmas
 pub mod LawLemmas
 pub mod OrderedLemmas
+pub mod PartLemmas
 pub mod SortedLemmas
 pub mod TripleLemmas
 pub mod WarpLemmas

@@ -9,6 +9,7 @@ mod laws;
 mod message;
 mod ordered;
 mod sides;
+mod parts;
 mod sort;
 mod sweep;
 #[cfg(test)]
