@@ -1,9 +1,10 @@
 -- For private functions and proofs alone: the parts of states between two changes of the notes.
-use Rattle.std.specs.Prelude.{List, map}
+use Rattle.std.specs.Prelude.{ℕ, ◌<◌, ◌≤◌, List, map, length, slice_index_or}
 use Rattle.std.specs.declared.cmp.Ordering.{Ordering}
 use Rattle.graphite_time.specs.Interval.{start_of}
 use Rattle.graphite_part.specs.declared.piece.Piece.{Piece}
 use Rattle.graphite_warp.specs.declared.message.Message.{Message}
+use Rattle.graphite_warp.specs.Sweep.{IsGroup}
 use Rattle.graphite_warp.specs.Warp.{notes_at}
 
 -- a part with the notes that hold its first instant
@@ -12,3 +13,8 @@ triple_of cmp messages part = record { over = part.over; value = (part.value, no
 
 abbrev pub triples_of : {S M : Type 0} → (M → M → Ordering) → List (Message M) → List (Piece S) → List (Piece (S × List M))
 triples_of cmp messages parts = map (triple_of cmp messages) parts
+
+-- parts of which the first ones were handed out, and the group of the last of these: it can move on to each that is left
+pub record IsCarried {S M : Type 0} (cmp : M → M → Ordering) (starts stops : List (Message M)) (parts : List (Piece S)) (place : ℕ) (notes : List M) (begun ended at : ℕ) : Type 0 where
+  pub group : IsGroup cmp starts stops notes begun ended at
+  pub left : (k : ℕ) (d : Piece S) → place ≤ k → k < length parts → at ≤ start_of (slice_index_or parts k d).over

@@ -1,36 +1,48 @@
-//! Time-warp one triple at a time.
-ghost use Rattle.std.specs.Prelude.{◌≡◌, [], IfOk, OnOk};
+//! Time-warp one triple at a time: one walk over the ends of the messages.
+ghost use Rattle.std.specs.Prelude.{◌≡◌, ◌<◌, ◌^◌, [], length, IfOk, OnOk};
 ghost use Rattle.graphite_part.specs.Pieces.{value_at, AreRuns};
 ghost use Rattle.graphite_warp.specs.declared.touch.Touch.TheVariants.{All};
 ghost use Rattle.graphite_warp.specs.Aligned.{IsNext};
 ghost use Rattle.graphite_warp.specs.Warp.{warped};
 
-use crate::{Message, Touch, Triple, warp};
+use crate::Message;
+use crate::changes::push_changes;
+use crate::group::Group;
+use crate::parts::{Changes, push_all_parts};
+use crate::sides::Sides;
 use graphite_part::{Partition, Piece, Plain};
 use graphite_time::NoMemory;
 use std::alloc::Global;
 use std::marker::Model;
 
-/// The triples of a vertex, handed out one at a time, with one group at hand. The memory that one
-/// vertex took serves the next.
+/// The triples of a vertex, handed out one at a time, with one group at hand: so memory follows the
+/// messages and the pieces, and not the groups. The memory that one vertex took serves the next.
 #[derive(Drop)]
 pub struct Sweep<S: Plain, M: Plain> {
     alloc: Global,
-    triples: Vec<Triple<S, M>>,
+    sides: Sides<M>,
+    changes: Vec<u64>,
+    // the triples without their notes, of which `place` were handed out
+    parts: Vec<Piece<S>>,
     place: usize,
-    group: Vec<M>,
+    group: Group<M>,
 }
 
 impl<S: Plain, M: Plain> Model for Sweep<S, M> {
     ghost use Rattle.graphite_warp.specs.Aligned.{Aligned};
+    ghost use Rattle.graphite_warp.specs.Parts.{triples_of, IsCarried};
 
     ghost Value = { Aligned S M };
 
     ghost view = { λ sweep. record {
-      triples = sweep.triples.items;
+      triples = triples_of M.cmp sweep.sides.starts sweep.parts.items;
       place = sweep.place;
-      group = sweep.group.items;
+      group = sweep.group.notes.items;
     } };
+
+    ghost invariant = { λ sweep. IsCarried M.cmp sweep.sides.starts sweep.sides.stops
+        sweep.parts.items sweep.place sweep.group.notes.items
+        sweep.group.begun sweep.group.ended sweep.group.at };
 }
 
 impl<S: Plain, M: Plain> Sweep<S, M> {
@@ -40,22 +52,35 @@ impl<S: Plain, M: Plain> Sweep<S, M> {
     {
         Sweep {
             alloc,
-            triples: Vec::new(alloc),
+            sides: Sides::new(alloc),
+            changes: Vec::new(alloc),
+            parts: Vec::new(alloc),
             place: 0,
-            group: Vec::new(alloc),
+            group: Group::new(alloc),
         }
     }
 
     /// Aligns states with messages, in place of what was aligned before: the triples are those of
-    /// [`warp`] at all instants with a state. After [`NoMemory`] align anew.
-    pub fn align(&mut self, states: &Partition<S>, messages: &[Message<M>]) -> Result<(), NoMemory>
+    /// [`warp`](crate::warp) at all instants with a state. After [`NoMemory`] align anew.
+    pub fn align(
+        &mut self,
+        states: &Partition<S>,
+        messages: &[Message<M>],
+    ) -> Result<(), NoMemory>
         ensures triples { OnOk result (AreRuns
             (warped M.cmp All (value_at states.now) messages.now) self.new.triples) }
         ensures place { OnOk result (self.new.place ≡ 0) }
+        ensures few { OnOk result (length self.new.triples < 2 ^ 64) }
     {
-        self.triples = warp(self.alloc, states, messages, Touch::All)?;
+        self.parts.clear();
         self.place = 0;
-        Ok(())
+        self.group.restart();
+        self.changes.clear();
+        self.sides.load(messages)?;
+        let starts = self.sides.starts();
+        push_changes(self.alloc, starts, self.sides.stops(), &mut self.changes)?;
+        let changes = Changes::new(starts, &self.changes);
+        push_all_parts(&mut self.parts, states.pieces(), &changes)
     }
 
     /// The interval and the state of the next triple, whose notes are in [`Sweep::group`] until the
@@ -64,15 +89,11 @@ impl<S: Plain, M: Plain> Sweep<S, M> {
         ensures triples { self.new.triples ≡ self.old.triples }
         ensures next { IfOk result (λ part. IsNext self.old part self.new) }
     {
-        if self.place >= self.triples.len() {
+        if self.place >= self.parts.len() {
             return Ok(None);
         }
-        let triple = &self.triples[self.place];
-        let part = Piece {
-            over: triple.over(),
-            value: triple.state(),
-        };
-        self.group = Vec::from_slice(self.alloc, triple.group())?;
+        let part = self.parts[self.place];
+        self.group.move_to(self.sides.starts(), self.sides.stops(), part.over.a())?;
         self.place += 1;
         Ok(Some(part))
     }
@@ -81,6 +102,6 @@ impl<S: Plain, M: Plain> Sweep<S, M> {
     pub fn group(&self) -> &[M]
         ensures { result.now ≡ self.now.group }
     {
-        &self.group
+        &self.group.notes
     }
 }
