@@ -1,5 +1,6 @@
 pub mod ChangeLemmas
 pub mod CountLemmas
+pub mod CarryLemmas
 pub mod Examples
 pub mod GroupLemmas
 pub mod LawLemmas

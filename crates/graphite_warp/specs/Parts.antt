@@ -3,6 +3,7 @@ use Rattle.std.specs.Prelude.{ℕ, ◌<◌, ◌≤◌, List, map, length, slice_
 use Rattle.std.specs.declared.cmp.Ordering.{Ordering}
 use Rattle.graphite_time.specs.Interval.{start_of}
 use Rattle.graphite_part.specs.declared.piece.Piece.{Piece}
+use Rattle.graphite_part.specs.Pieces.{IsChain}
 use Rattle.graphite_warp.specs.declared.message.Message.{Message}
 use Rattle.graphite_warp.specs.Sweep.{IsGroup}
 use Rattle.graphite_warp.specs.Warp.{notes_at}
@@ -14,7 +15,8 @@ triple_of cmp messages part = record { over = part.over; value = (part.value, no
 abbrev pub triples_of : {S M : Type 0} → (M → M → Ordering) → List (Message M) → List (Piece S) → List (Piece (S × List M))
 triples_of cmp messages parts = map (triple_of cmp messages) parts
 
--- parts of which the first ones were handed out, and the group of the last of these: it can move on to each that is left
+-- parts of which the first ones were handed out, and the group of the last of these, which can move on to the next
 pub record IsCarried {S M : Type 0} (cmp : M → M → Ordering) (starts stops : List (Message M)) (parts : List (Piece S)) (place : ℕ) (notes : List M) (begun ended at : ℕ) : Type 0 where
   pub group : IsGroup cmp starts stops notes begun ended at
-  pub left : (k : ℕ) (d : Piece S) → place ≤ k → k < length parts → at ≤ start_of (slice_index_or parts k d).over
+  pub chain : IsChain (triples_of cmp starts parts)
+  pub next : (d : Piece S) → place < length parts → at ≤ start_of (slice_index_or parts place d).over

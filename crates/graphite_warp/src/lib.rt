@@ -8,8 +8,8 @@ mod group;
 mod laws;
 mod message;
 mod ordered;
-mod sides;
 mod parts;
+mod sides;
 mod sort;
 mod sweep;
 #[cfg(test)]

@@ -1,5 +1,5 @@
 //! The parts of states between two changes of the notes that hold.
-ghost use Rattle.std.specs.Prelude.{◌≡◌, ◌≢◌, ℕ, ◌<◌, ◌≤◌, [], Some, OnOk};
+ghost use Rattle.std.specs.Prelude.{◌≡◌, ◌≢◌, ℕ, ◌<◌, ◌≤◌, [], Some, OnOk, OnErr};
 ghost use Rattle.graphite_time.specs.Interval.{start_of, end_of};
 ghost use Rattle.graphite_part.specs.Fills.{EndsWith, Filled};
 ghost use Rattle.graphite_part.specs.Pieces.{value_at, last_end, IsChain, AreRuns};
@@ -54,8 +54,27 @@ impl<'a, M: Plain> Changes<'a, M> {
     }
 }
 
-/// Puts the parts of all pieces into `parts`: together with their notes they are the triples.
-pub(crate) fn push_all_parts<S: Plain, M: Plain>(
+/// Puts the parts of all pieces into `parts`, or none: together with their notes they are the triples.
+pub(crate) fn fill_parts<S: Plain, M: Plain>(
+    parts: &mut Vec<Piece<S>>,
+    pieces: &[Piece<S>],
+    changes: &Changes<M>,
+) -> Result<(), NoMemory>
+    requires none { parts.old.items ≡ [] }
+    requires chain { IsChain pieces.now }
+    ensures ok { OnOk result (AreRuns (warped M.cmp All (value_at pieces.now) changes.now)
+        (triples_of M.cmp changes.now parts.new.items)) }
+    ensures err { OnErr result (parts.new.items ≡ []) }
+{
+    if push_all_parts(parts, pieces, changes).is_err() {
+        parts.clear();
+        return Err(NoMemory);
+    }
+    Ok(())
+}
+
+/// Puts the parts of all pieces into `parts`.
+fn push_all_parts<S: Plain, M: Plain>(
     parts: &mut Vec<Piece<S>>,
     pieces: &[Piece<S>],
     changes: &Changes<M>,

@@ -8,7 +8,7 @@ ghost use Rattle.graphite_warp.specs.Warp.{warped};
 use crate::Message;
 use crate::changes::push_changes;
 use crate::group::Group;
-use crate::parts::{Changes, push_all_parts};
+use crate::parts::{Changes, fill_parts};
 use crate::sides::Sides;
 use graphite_part::{Partition, Piece, Plain};
 use graphite_time::NoMemory;
@@ -62,11 +62,7 @@ impl<S: Plain, M: Plain> Sweep<S, M> {
 
     /// Aligns states with messages, in place of what was aligned before: the triples are those of
     /// [`warp`](crate::warp) at all instants with a state. After [`NoMemory`] align anew.
-    pub fn align(
-        &mut self,
-        states: &Partition<S>,
-        messages: &[Message<M>],
-    ) -> Result<(), NoMemory>
+    pub fn align(&mut self, states: &Partition<S>, messages: &[Message<M>]) -> Result<(), NoMemory>
         ensures triples { OnOk result (AreRuns
             (warped M.cmp All (value_at states.now) messages.now) self.new.triples) }
         ensures place { OnOk result (self.new.place ≡ 0) }
@@ -80,7 +76,7 @@ impl<S: Plain, M: Plain> Sweep<S, M> {
         let starts = self.sides.starts();
         push_changes(self.alloc, starts, self.sides.stops(), &mut self.changes)?;
         let changes = Changes::new(starts, &self.changes);
-        push_all_parts(&mut self.parts, states.pieces(), &changes)
+        fill_parts(&mut self.parts, states.pieces(), &changes)
     }
 
     /// The interval and the state of the next triple, whose notes are in [`Sweep::group`] until the
@@ -93,7 +89,8 @@ impl<S: Plain, M: Plain> Sweep<S, M> {
             return Ok(None);
         }
         let part = self.parts[self.place];
-        self.group.move_to(self.sides.starts(), self.sides.stops(), part.over.a())?;
+        self.group
+            .move_to(self.sides.starts(), self.sides.stops(), part.over.a())?;
         self.place += 1;
         Ok(Some(part))
     }
