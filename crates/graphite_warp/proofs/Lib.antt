@@ -2,6 +2,7 @@ pub mod ChangeLemmas
 pub mod CountLemmas
 pub mod CarryLemmas
 pub mod Examples
+pub mod FilterLemmas
 pub mod GroupLemmas
 pub mod LawLemmas
 pub mod OrderedLemmas

@@ -1,19 +1,21 @@
 //! What a warp gives: an interval, with the state and the notes at each of its instants.
-ghost use Rattle.std.specs.Prelude.{◌≡◌, ◌↔◌, ◌≤◌, IsTrue, OnOk, OnErr};
-ghost use Rattle.graphite_time.specs.Interval.{start_of};
-ghost use Rattle.graphite_part.specs.Pieces.{IsChain, last_end};
-ghost use Rattle.graphite_part.specs.Fills.{Pushed};
+ghost use Rattle.std.specs.Prelude.{◌≡◌, ◌↔◌, IsTrue, IfOk};
 
-use graphite_part::{Lasting, Plain, append, is_same};
+use graphite_part::{Piece, Plain};
 use graphite_time::{Interval, NoMemory};
+use smallvec::SmallVec;
+use std::alloc::Global;
 use std::marker::Model;
+
+// so many notes stand in the triple itself: most groups are small
+const PLACES: usize = 4;
 
 /// An interval at each instant of which the same state meets the same notes.
 #[derive(Drop)]
 pub struct Triple<S: Plain, M: Plain> {
     over: Interval,
     state: S,
-    group: Vec<M>,
+    group: SmallVec<M, PLACES>,
 }
 
 impl<S: Plain, M: Plain> Model for Triple<S, M> {
@@ -26,10 +28,16 @@ impl<S: Plain, M: Plain> Model for Triple<S, M> {
 }
 
 impl<S: Plain, M: Plain> Triple<S, M> {
-    pub(crate) fn new(over: Interval, state: S, group: Vec<M>) -> Triple<S, M>
-        ensures { result ≡ record { over = over; value = (state, group.items) } }
+    pub(crate) fn new(alloc: Global, part: Piece<S>, group: &[M]) -> Result<Triple<S, M>, NoMemory>
+        ensures { IfOk result (λ triple. triple
+            ≡ record { over = part.over; value = (part.value, group.now) }) }
     {
-        Triple { over, state, group }
+        let group = SmallVec::from_slice(alloc, group)?;
+        Ok(Triple {
+            over: part.over,
+            state: part.value,
+            group,
+        })
     }
 
     /// The instants.
@@ -50,44 +58,8 @@ impl<S: Plain, M: Plain> Triple<S, M> {
     pub fn group(&self) -> &[M]
         ensures { result.now ≡ self.now.value.1 }
     {
-        &self.group
+        self.group.as_slice()
     }
-}
-
-impl<S: Plain, M: Plain> Lasting for Triple<S, M> {
-    ghost use Rattle.std.specs.Prelude.{List};
-
-    ghost Value = { S × List M };
-
-    ghost piece = { λ triple. triple };
-
-    fn interval(&self) -> Interval {
-        self.over
-    }
-
-    fn has_value_of(&self, other: &Self) -> bool {
-        is_same(self.state, other.state) && are_same(&self.group, &other.group)
-    }
-
-    fn set_interval(&mut self, over: Interval) {
-        self.over = over;
-    }
-}
-
-/// Adds a triple at the end. Where it touches the last one with the same state and notes, that is
-/// lengthened.
-pub(crate) fn push_triple<S: Plain, M: Plain>(
-    triples: &mut Vec<Triple<S, M>>,
-    over: Interval,
-    state: S,
-    group: Vec<M>,
-) -> Result<(), NoMemory>
-    requires chain { IsChain triples.old.items }
-    requires later { last_end triples.old.items ≤ start_of over }
-    ensures ok { OnOk result (Pushed triples.old.items triples.new.items over (state, group.items)) }
-    ensures err { OnErr result (triples.new.items ≡ triples.old.items) }
-{
-    append(triples, Triple::new(over, state, group))
 }
 
 /// Whether two lists of notes are the same.
