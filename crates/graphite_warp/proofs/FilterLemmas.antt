@@ -13,7 +13,7 @@ use Rattle.graphite_part.proofs.PiecesLemmas.{value_at-tail}
 use Rattle.graphite_warp.specs.declared.message.Message.{Message}
 use Rattle.graphite_warp.specs.declared.touch.Touch.{Touch}
 use Rattle.graphite_warp.specs.declared.touch.Touch.TheVariants as touch_is
-use Rattle.graphite_warp.specs.Ordered.{asks_for}
+use Rattle.graphite_warp.specs.Asked.{asks_for}
 use Rattle.graphite_warp.specs.Warp.{notes_at, is_asked, warped}
 use Rattle.graphite_warp.proofs.WarpLemmas.{asks-notes_at}
 

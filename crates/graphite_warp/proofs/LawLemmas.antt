@@ -15,7 +15,7 @@ use Rattle.graphite_warp.specs.declared.message.Message.{Message}
 use Rattle.graphite_warp.specs.declared.touch.Touch.{Touch}
 use Rattle.graphite_warp.specs.declared.touch.Touch.TheVariants as touch_is
 use Rattle.graphite_warp.specs.Warp.{held_notes, notes_at, is_touched, is_asked, warped}
-use Rattle.graphite_warp.specs.Ordered.{asks_for}
+use Rattle.graphite_warp.specs.Asked.{asks_for}
 use Rattle.graphite_warp.proofs.SortedLemmas.{times, one_if_equal, sorted_same}
 use Rattle.graphite_warp.proofs.WarpLemmas.{asks-notes_at}
 

@@ -5,7 +5,6 @@ pub mod Examples
 pub mod FilterLemmas
 pub mod GroupLemmas
 pub mod LawLemmas
-pub mod OrderedLemmas
 pub mod PartLemmas
 pub mod SortedLemmas
 pub mod TripleLemmas

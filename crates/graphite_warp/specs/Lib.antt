@@ -1,5 +1,5 @@
 pub mod Aligned
-pub mod Ordered
+pub mod Asked
 pub mod Parts
 pub mod Sorted
 pub mod Sweep

@@ -52,8 +52,3 @@ pub record Sided (M : Type 0) : Type 0 where
   pub starts : List (Message M)
   pub stops : List (Message M)
   pub counts : (note : M) → count_by (λ y. is_eq (cmp note y)) notes + noted cmp note (take ended stops) ≡ noted cmp note (take begun starts)
-
--- what a load of messages holds
-pub record Sided (M : Type 0) : Type 0 where
-  pub starts : List (Message M)
-  pub stops : List (Message M)

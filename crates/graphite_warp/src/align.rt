@@ -1,7 +1,7 @@
 //! Time-warp: the triples of states and messages.
 ghost use Rattle.std.specs.Prelude.{◌≡◌, ◌++◌, [], ◌∷◌, filter, if◌then◌else◌, IfOk, OnOk};
 ghost use Rattle.graphite_part.specs.Pieces.{value_at, AreRuns};
-ghost use Rattle.graphite_warp.specs.Ordered.{asks_for};
+ghost use Rattle.graphite_warp.specs.Asked.{asks_for};
 ghost use Rattle.graphite_warp.specs.Warp.{warped};
 
 use crate::{Message, Sweep, Touch, Triple};

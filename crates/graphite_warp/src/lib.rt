@@ -3,11 +3,9 @@
 
 mod align;
 mod changes;
-mod ends;
 mod group;
 mod laws;
 mod message;
-mod ordered;
 mod parts;
 mod sides;
 mod sort;

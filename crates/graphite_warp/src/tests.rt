@@ -83,6 +83,28 @@ fn a_long_message_meets_short_ones(rt: HostRuntime) -> Result<(), Fail> {
 }
 
 #[test]
+fn very_many_messages_that_overlap(rt: HostRuntime) -> Result<(), Fail> {
+    let over = interval(0, 400_001)?;
+    let mut states = Partition::new(rt.alloc());
+    states.push(over, 0)?;
+    let mut messages = Vec::new(rt.alloc());
+    for start in 0..400_000 {
+        messages.push(message(start, start + 2, 0)?)?;
+    }
+    let triples = warp(rt.alloc(), &states, &messages, Touch::Touched)?;
+    assert_triples(
+        &rt,
+        &triples,
+        &[
+            (0, 1, &[0]),
+            (1, 400_000, &[0, 0]),
+            (400_000, 400_001, &[0]),
+        ],
+    );
+    Ok(())
+}
+
+#[test]
 fn all_instants_without_messages(rt: HostRuntime) -> Result<(), Fail> {
     let states = states(rt.alloc())?;
     let (triples, again) = warped_in_two_orders(rt.alloc(), &states, &[], &[], Touch::All)?;

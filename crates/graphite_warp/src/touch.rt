@@ -1,6 +1,6 @@
 //! Which instants a warp is asked for.
 ghost use Rattle.std.specs.Prelude.{◌≡◌};
-ghost use Rattle.graphite_warp.specs.Ordered.{asks_for};
+ghost use Rattle.graphite_warp.specs.Asked.{asks_for};
 
 /// Which instants a warp is asked for.
 #[derive(Clone, Copy, Debug, PartialEq, Eq)]

@@ -1,9 +1,0 @@
--- What was sorted by its start is in order.
-use Rattle.std.proofs.Common.{rules}
-use Rattle.std.proofs.lemmas.List.Sorted.{IsNonDecreasingBy-from_sort_by_key}
-use Rattle.graphite_time.specs.Interval.{start_of}
-use Rattle.graphite_warp.proofs.ordered.sort_by_start.Goals as goal
-
-pub returns-clause-in_order : goal.returns-clause-in_order
-returns-clause-in_order g c =
-    IsNonDecreasingBy-from_sort_by_key (λ m. start_of m.over) _ c.sort_unstable_by_key.ensures.sorted (λ a r q k. search rules)
