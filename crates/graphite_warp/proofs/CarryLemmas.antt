@@ -1,9 +1,9 @@
 -- What a sweep carries from triple to triple.
-use Rattle.std.proofs.Common.{◌≡◌, ℕ, zero, suc, ◌+◌, ◌-◌, ◌<◌, ◌≤◌, List, [], ◌∷◌, ◌++◌, map, length, get_or, Option, Some, None, Ordering, refl, sym, ◌∙◌, ap, subst, arith, Result, Ok, Err, OnOk, OnErr, slice_get}
+use Rattle.std.proofs.Common.{◌≡◌, ℕ, zero, suc, ◌+◌, ◌<◌, ◌≤◌, List, [], ◌∷◌, length, get_or, Option, Some, Ordering, refl, sym, ◌∙◌, ap, subst, arith, Result, Ok, Err, OnOk, OnErr, slice_get}
 use Rattle.std.specs.Cmp.{IsTotalOrder}
 use Rattle.std.specs.List.Sorted.{IsPermutation}
 use Rattle.std.proofs.lemmas.List.{length-map}
-use Rattle.graphite_time.specs.Interval.{start_of, end_of}
+use Rattle.graphite_time.specs.Interval.{start_of}
 use Rattle.graphite_part.specs.Plain.{IsExact}
 use Rattle.graphite_part.specs.declared.piece.Piece.{Piece}
 use Rattle.graphite_part.specs.Pieces.{value_at, IsChain, AreRuns}

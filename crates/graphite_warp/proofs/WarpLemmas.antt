@@ -1,20 +1,7 @@
 -- The parts between two ends of messages, and the triples that are written for them.
-use Rattle.std.proofs.Common.{◌≡◌, ℕ, zero, suc, ◌+◌, ◌<◌, ◌≤◌, min, leb, Bool, true, false, ◌||◌, List, [], ◌∷◌, ◌++◌, map, filter, length, get_or, take, Option, Some, None, option_map, Ordering, cond, refl, sym, ◌∙◌, ap, subst, arith, ⊎_elim, All, length-append}
+use Rattle.std.proofs.Common.{◌≡◌, ℕ, true, false, ◌||◌, List, [], ◌∷◌, map, filter, Option, None, option_map, Ordering, cond, refl, ◌∙◌, ap}
 use Rattle.std.specs.Ordering.{is_lt}
-use Rattle.std.specs.List.Sorted.{IsNonDecreasing, IsPermutation, IsPartitionPoint}
-use Rattle.std.proofs.lemmas.Bool.{cond-true, cond-false, cases_lt, leb-true, leb-false}
-use Rattle.std.proofs.lemmas.Bool.Decides.{nat_tests}
-use Rattle.std.proofs.lemmas.List.{get_or_default, get_or_past, take_all, get_or_append_left, get_or-append-add}
-use Rattle.std.proofs.lemmas.List.Sorted.{All-permutation, IsPermutation-sym}
-use Rattle.graphite_time.specs.declared.interval.Interval.{Interval}
-use Rattle.graphite_time.specs.Interval.{start_of, end_of, holds}
-use Rattle.graphite_time.proofs.LifeLemmas.{holds-from, holds_before}
-use Rattle.graphite_part.specs.declared.piece.Piece.{Piece}
-use Rattle.graphite_part.specs.Pieces.{value_at, last_end, IsChain, AreRuns}
-use Rattle.graphite_part.specs.Fills.{Filled, Pushed}
-use Rattle.graphite_part.proofs.FillLemmas.{value_at-past}
-use Rattle.graphite_part.proofs.CopyLemmas.{next_piece}
-use Rattle.graphite_part.proofs.SweepLemmas.{Filled-skip, Filled-then, Filled-runs, value_at-span}
+use Rattle.graphite_time.specs.Interval.{holds}
 use Rattle.graphite_warp.specs.declared.message.Message.{Message}
 use Rattle.graphite_warp.specs.declared.touch.Touch.{Touch}
 use Rattle.graphite_warp.specs.declared.touch.Touch.TheVariants as touch_is

@@ -4,10 +4,6 @@ use Rattle.std.specs.Prelude.{◌≡◌, ◌≢◌, ℕ, ◌+◌, ◌≤◌, Lis
 use Rattle.std.specs.List.{Contains, AllWithin, count_by}
 use Rattle.std.specs.List.Sorted.{IsNonDecreasing, IsNonDecreasingBy, IsPermutation, IsSorted}
 use Rattle.std.specs.Ordering.{is_eq}
-use Rattle.std.specs.Prelude.{◌≡◌, ◌≢◌, ℕ, ◌+◌, List, All}
-use Rattle.std.specs.Prelude.{◌≡◌, ◌≢◌, ℕ, ◌+◌, ◌<◌, ◌≤◌, List, All, length, map, take, slice_index_or}
-use Rattle.std.specs.List.{Contains}
-use Rattle.std.specs.List.Sorted.{IsNonDecreasing, IsNonDecreasingBy, IsPermutation}
 use Rattle.std.specs.declared.cmp.Ordering.{Ordering}
 use Rattle.graphite_time.specs.Interval.{start_of, end_of}
 use Rattle.graphite_warp.specs.declared.message.Message.{Message}
@@ -47,8 +43,3 @@ pub record IsGroup {M : Type 0} (cmp : M → M → Ordering) (starts stops : Lis
   pub have_ended : AllWithin (λ m. end_of m.over ≤ at) stops 0 ended
   pub rise : IsSorted cmp notes
   pub counts : (note : M) → times_in cmp note notes + noted cmp note (take ended stops) ≡ noted cmp note (take begun starts)
--- what a load of messages holds
-pub record Sided (M : Type 0) : Type 0 where
-  pub starts : List (Message M)
-  pub stops : List (Message M)
-  pub counts : (note : M) → count_by (λ y. is_eq (cmp note y)) notes + noted cmp note (take ended stops) ≡ noted cmp note (take begun starts)

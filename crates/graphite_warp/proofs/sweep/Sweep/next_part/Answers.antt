@@ -1,7 +1,5 @@
 -- The group has moved on to the start of the next part.
-use Rattle.std.proofs.Common.{rules, ◌∙◌, arith, refl, ap, sym, subst}
-use Rattle.graphite_warp.specs.Sweep.{IsGroup}
-use Rattle.graphite_warp.specs.Warp.{notes_at}
+use Rattle.std.proofs.Common.{rules}
 use Rattle.graphite_warp.proofs.CarryLemmas.{IsCarried-more, next_is}
 use Rattle.graphite_warp.proofs.sweep.Sweep.next_part.Goals as goal
 
