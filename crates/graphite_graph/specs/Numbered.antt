@@ -1,16 +1,19 @@
--- Names that are numbered: the number that a name ends in says where it stands.
-use Rattle.std.specs.Prelude.{◌≡◌, ℕ, ◌+◌, ◌-◌, ◌*◌, ◌^◌, min, List, [], ◌∷◌, fold, if◌then◌else◌}
+-- Names that are numbered: the number behind their prefix says where a name stands.
+use Rattle.std.specs.Prelude.{◌≡◌, ℕ, ◌+◌, ◌-◌, ◌^◌, List, [], ◌∷◌, length, take, drop, reverse, Option, None, Some, if◌then◌else◌}
 use Rattle.std.specs.Char.{is_ascii_digit}
+use Rattle.std.specs.List.{take_while}
+use Rattle.std.specs.Str.{bytes_eq}
+use Rattle.graphite_base.specs.Numbers.{number_in}
 
--- the number that a name ends in after one more byte, cut to 64 bits
-abbrev pub number_with : ℕ → ℕ → ℕ
-number_with number c = if is_ascii_digit c then min (min (number * 10) (2 ^ 64 - 1) + (c - 48)) (2 ^ 64 - 1) else 0
+-- a name without the digits that it ends in
+abbrev pub prefix_of : List ℕ → List ℕ
+prefix_of name = take (length name - length (take_while is_ascii_digit (reverse name))) name
 
--- the number that a name ends in; 0 where it ends in no digit
-abbrev pub end_number : List ℕ → ℕ
-end_number name = fold number_with 0 name
+-- the number behind a prefix in a name, where it is a canonical decimal and fits 64 bits
+unfoldable pub number_after : List ℕ → List ℕ → Option ℕ
+number_after prefix name = if bytes_eq (take (length prefix) name) prefix then number_in (2 ^ 64 - 1) (drop (length prefix) name) else None
 
--- the names end in numbers that rise by one, from this one on
-abbrev pub AreNumbered : ℕ → List (List ℕ) → Type 0
-AreNumbered n [] = Unit {0}
-AreNumbered n (name ∷ names) = (end_number name ≡ n) × AreNumbered (n + 1) names
+-- the names are the prefix with numbers that rise by one, from this one on
+abbrev pub AreNumbered : List ℕ → ℕ → List (List ℕ) → Type 0
+AreNumbered prefix n [] = Unit {0}
+AreNumbered prefix n (name ∷ names) = (number_after prefix name ≡ Some n) × AreNumbered prefix (n + 1) names
