@@ -139,7 +139,7 @@ def run(program, files, limit):
         told = 'EXIT CODE %d' % child.returncode
     else:
         told = 'right' if filecmp.cmp(report, answer, shallow=False) else 'OTHER BYTES'
-    return usage.ru_utime + usage.ru_stime, usage.ru_maxrss / 1024, told
+    return max(usage.ru_utime + usage.ru_stime, 0.001), usage.ru_maxrss / 1024, told
 
 
 def best(programs, files, repeat, limit):
