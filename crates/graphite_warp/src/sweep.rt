@@ -1,5 +1,6 @@
 //! Time-warp one triple at a time: one walk over the ends of the messages.
 ghost use Rattle.std.specs.Prelude.{◌≡◌, ◌<◌, ◌^◌, [], length, IfOk, OnOk};
+ghost use Rattle.std.specs.List.Sorted.{IsSorted};
 ghost use Rattle.graphite_part.specs.Pieces.{value_at, AreRuns};
 ghost use Rattle.graphite_warp.specs.declared.touch.Touch.TheVariants.{All};
 ghost use Rattle.graphite_warp.specs.Aligned.{IsNext};
@@ -97,7 +98,8 @@ impl<S: Plain, M: Plain> Sweep<S, M> {
 
     /// The notes of the triple that was handed out last, in rising order, repeats kept.
     pub fn group(&self) -> &[M]
-        ensures { result.now ≡ self.now.group }
+        ensures notes { result.now ≡ self.now.group }
+        ensures rising { IsSorted M.cmp result.now }
     {
         &self.group.notes
     }
