@@ -2,6 +2,7 @@
 //! each vertex computes.
 ghost use Rattle.std.specs.Prelude.{◌≡◌, ◌≢◌, ◌++◌, ◌∷◌, [], false, true, ◌+◌, ◌^◌, ◌<◌, ◌≤◌, ℕ, All, List, Option, map, filter, not, length, slice_get, option_map, is_some, count_by, if◌then◌else◌, IfOk, OnOk, IsTrue};
 ghost use Rattle.std.specs.List.{range_with_len};
+ghost use Rattle.std.specs.List.Sorted.{IsSorted};
 ghost use Rattle.std.specs.Bool.{OnTrue, OnFalse};
 ghost use Rattle.graphite_time.specs.declared.TheConstants.{LAST};
 ghost use Rattle.graphite_time.specs.Interval.{start_of, end_of, holds};
@@ -60,6 +61,7 @@ fn next_of<P: PointProgram>(
 ) -> Next<P::State>
     requires room { P.count program.old + 1 < 2 ^ 128 }
     requires step { 1 ≤ step }
+    requires rising { IsSorted P.Note.cmp group.now }
     ensures next { result ≡ outcome_with (point_rules P.plan) step state group.now }
     ensures calls { P.count program.new
         ≡ P.count program.old + (if computes (point_rules P.plan) step group.now then 1 else 0) }
@@ -79,6 +81,7 @@ fn advance_one<P: PointProgram>(
 ) -> Option<Next<P::State>>
     requires room { P.count program.old + 1 < 2 ^ 128 }
     requires step { 1 ≤ step }
+    requires rising { IsSorted P.Note.cmp group.now }
     ensures next { result ≡ outcome_at (point_rules P.plan) step (state_of outcome) group.now }
     ensures calls { P.count program.new ≡ P.count program.old
         + (if is_some (input_of (point_rules P.plan) step (state_of outcome) group.now) then 1 else 0) }
@@ -96,6 +99,7 @@ fn advance<P: PointProgram>(
     groups: &Groups<P::Note>,
 ) -> Result<Vec<Option<Next<P::State>>>, NoMemory>
     requires groups { length groups.now ≡ length outcomes.now }
+    requires rising { (v : ℕ) → IsSorted P.Note.cmp (list_of groups.now v) }
     requires room { P.count program.old + length outcomes.now < 2 ^ 128 }
     requires step { 1 ≤ step }
     ensures len { IfOk result (λ new. length new.items ≡ length outcomes.now) }
@@ -156,6 +160,7 @@ fn groups_at<P: PointProgram>(
     ensures len { IfOk result (λ groups. length groups ≡ length outcomes.now) }
     ensures groups { IfOk result (λ groups. (v : ℕ) → list_of groups v
         ≡ group_of P.plan (map link_of arcs.now) (entry_of outcomes.now) v) }
+    ensures rising { IfOk result (λ groups. (v : ℕ) → IsSorted P.Note.cmp (list_of groups v)) }
 {
     let mut groups = Groups::empty(alloc, outcomes.len())?;
     deliver(program, arcs, now, outcomes, &mut groups)?;

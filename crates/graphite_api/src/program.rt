@@ -1,5 +1,6 @@
 //! The trait of programs whose vertices compute and send along their arcs.
 ghost use Rattle.std.specs.Prelude.{◌≡◌, ℕ, ◌+◌, ◌^◌, ◌<◌, ◌≤◌, Bool};
+ghost use Rattle.std.specs.List.Sorted.{IsSorted};
 ghost use Rattle.graphite_time.specs.Interval.{start_of, end_of};
 ghost use Rattle.graphite_api.specs.Rules.{Rules};
 
@@ -37,6 +38,7 @@ pub trait Program {
     fn compute(&mut self, step: u32, state: Self::State, group: &[Self::Note]) -> Next<Self::State>
         requires room { count self.old + 1 < 2 ^ 128 }
         requires step { 1 ≤ step }
+        requires rising { IsSorted Self.Note.cmp group.now }
         ensures next { result ≡ rules.next step state group.now }
         ensures counted { count self.new ≡ count self.old + 1 };
 

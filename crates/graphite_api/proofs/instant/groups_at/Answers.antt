@@ -1,7 +1,9 @@
 -- What was told is sorted by the order of the plan.
 use Rattle.std.proofs.Common.{◌≡◌, ◌∙◌, ap, sym, subst, ◌++◌, All, length, map}
 use Rattle.std.proofs.lemmas.List.FromFn.{length-map-range_with_len}
+use Rattle.std.specs.List.Sorted.{IsSorted}
 use Rattle.graphite_warp.specs.Sorted.{sorted}
+use Rattle.graphite_warp.proofs.SortedLemmas.{IsSorted-sorted}
 use Rattle.graphite_api.specs.Snapshot.{link_of}
 use Rattle.graphite_api.specs.Supersteps.{notes_to}
 use Rattle.graphite_api.specs.Outcomes.{entry_of, list_of, IsTaken}
@@ -25,3 +27,7 @@ returns-clause-groups g c =
     let first = ap (λ groups. list_of groups v) c.in_ok-groups.ensures ∙ list_of-empty 0 (length c.args.outcomes.now) v in
     let told = c.in_ok-deliver.ensures.told v ∙ ap (λ ns. ns ++ notes_to plan (map link_of c.args.arcs.now) (entry_of c.args.outcomes.now) v) first in
     c.sort.ensures.sorted v ∙ ap (sorted g.P.Note.Ord.cmp) told ∙ ap (λ order. sorted order (notes_to plan (map link_of c.args.arcs.now) (entry_of c.args.outcomes.now) v)) (g.met.P.Program.order_is ∙ ap (λ rules. rules.order) g.met.P.PointProgram.rules_are)
+
+pub returns-clause-rising : goal.returns-clause-rising
+returns-clause-rising g c =
+    λ v. subst (IsSorted g.P.Note.Ord.cmp) (sym (c.sort.ensures.sorted v)) (IsSorted-sorted g.P.Note.Ord.cmp g.met.P.Note.Ord.total (list_of c.deliver.new.groups v))
