@@ -1,5 +1,6 @@
 //! A superstep at one vertex.
 ghost use Rattle.std.specs.Prelude.{◌≡◌, ◌+◌, ◌^◌, ◌<◌, ◌≤◌, if◌then◌else◌, length, IfOk, OnOk, OnErr};
+ghost use Rattle.std.specs.List.Sorted.{IsSorted};
 ghost use Rattle.graphite_time.specs.Interval.{start_of};
 ghost use Rattle.graphite_part.specs.Pieces.{IsChain, AreRuns, last_end};
 ghost use Rattle.graphite_api.specs.Rules.{computes, outcome_with, state_of};
@@ -88,6 +89,7 @@ fn compute_part<P: Program>(
 ) -> Next<P::State>
     requires step { 1 ≤ step }
     requires room { P.count program.old + 1 < 2 ^ 128 }
+    requires rising { IsSorted P.Note.cmp group.now }
     ensures next { result ≡ outcome_with P.rules
         step state group.now }
     ensures counted { P.count program.new ≡ P.count program.old

@@ -33,18 +33,18 @@ pub loop-outcome-preserved : goal.loop-outcome-preserved
 loop-outcome-preserved g c =
     AreComputed-more g.P.Program.rules c.args.step c.args.sweep.now.triples c.loop-outcome.sweep c.next_part.new.self c.loop-outcome.outcome.states c.loop-outcome.outcome.sent (g.P.Program.count c.args.program.now) (g.P.Program.count c.loop-outcome.program) c.in-Some.part c.in_ok-part.field-0 c.in-Some.is c.requires.chain c.loop-outcome.invariant c.in_ok-part.ensures.next
     c.push_part.new.outcome.states c.push_part.new.outcome.sent (g.P.Program.count c.compute_part-next.new.program) c.compute_part-next.result c.next_part.ensures.triples
-    (rw (← c.group.ensures) c.compute_part-next.ensures.next) (rw (← c.group.ensures) c.compute_part-next.ensures.counted) c.in_ok-push_part.ensures.states c.in_ok-push_part.ensures.sent
+    (rw (← c.group.ensures.notes) c.compute_part-next.ensures.next) (rw (← c.group.ensures.notes) c.compute_part-next.ensures.counted) c.in_ok-push_part.ensures.states c.in_ok-push_part.ensures.sent
 
 pub returns-in_err-push_part-clause-at_most : goal.returns-in_err-push_part-clause-at_most
 returns-in_err-push_part-clause-at_most g c =
     let counted = next_counted g.P.Program.rules c.args.step c.args.sweep.now.triples c.loop-outcome.sweep c.next_part.new.self c.loop-outcome.outcome.states c.loop-outcome.outcome.sent (g.P.Program.count c.args.program.now) (g.P.Program.count c.loop-outcome.program) c.in-Some.part c.in_ok-part.field-0 c.in-Some.is c.requires.chain c.loop-outcome.invariant c.in_ok-part.ensures.next
-    (g.P.Program.count c.compute_part-next.new.program) (rw (← c.group.ensures) c.compute_part-next.ensures.counted) in
+    (g.P.Program.count c.compute_part-next.new.program) (rw (← c.group.ensures.notes) c.compute_part-next.ensures.counted) in
     counted.0
 
 pub returns-in_err-push_part-clause-few : goal.returns-in_err-push_part-clause-few
 returns-in_err-push_part-clause-few g c =
     let counted = next_counted g.P.Program.rules c.args.step c.args.sweep.now.triples c.loop-outcome.sweep c.next_part.new.self c.loop-outcome.outcome.states c.loop-outcome.outcome.sent (g.P.Program.count c.args.program.now) (g.P.Program.count c.loop-outcome.program) c.in-Some.part c.in_ok-part.field-0 c.in-Some.is c.requires.chain c.loop-outcome.invariant c.in_ok-part.ensures.next
-    (g.P.Program.count c.compute_part-next.new.program) (rw (← c.group.ensures) c.compute_part-next.ensures.counted) in
+    (g.P.Program.count c.compute_part-next.new.program) (rw (← c.group.ensures.notes) c.compute_part-next.ensures.counted) in
     omega (arith, counted.1)
 
 pub returns-clause-states : goal.returns-clause-states
