@@ -1,4 +1,5 @@
 pub mod AnswerLemmas
 pub mod GraphLemmas
+pub mod LeastLemmas
 pub mod MapLemmas
 pub mod SameLemmas

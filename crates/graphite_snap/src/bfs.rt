@@ -1,5 +1,7 @@
 //! Breadth-first search.
 ghost use Rattle.std.specs.Prelude.{◌≡◌, false, refl};
+ghost use Rattle.std.specs.List.Sorted.{IsSorted};
+ghost use Rattle.std.specs.Ordering.{nat_cmp};
 ghost use Rattle.graphite_api.specs.Rules.{point_rules};
 ghost use Rattle.graphite_snap.specs.Bfs.{bfs, bfs_next, bfs_plan};
 
@@ -116,6 +118,7 @@ impl SnapProgram for Search {
 
 /// What a vertex has after a superstep.
 fn next(step: u32, state: Option<u32>, group: &[u32]) -> Next<Option<u32>>
+    requires rising { IsSorted nat_cmp group.now }
     ensures { result ≡ bfs_next step state group.now }
 {
     if step == 1 {

@@ -1,5 +1,6 @@
 //! Programs of snapshots on a small graph that changes.
 ghost use Rattle.std.specs.Prelude.{◌≡◌, ◌+◌, ◌^◌, ◌<◌, ◌≤◌};
+ghost use Rattle.std.specs.List.Sorted.{IsSorted};
 ghost use Rattle.graphite_time.specs.Interval.{start_of, end_of};
 
 use super::*;
@@ -24,6 +25,7 @@ fn compute_once<P: Program>(
 ) -> Next<P::State>
     requires room { P.count program.old + 1 < 2 ^ 128 }
     requires step { 1 ≤ step }
+    requires rising { IsSorted P.Note.cmp group.now }
     ensures next { result ≡ P.rules.next step state group.now }
     ensures counted { P.count program.new ≡ P.count program.old + 1 }
 {
