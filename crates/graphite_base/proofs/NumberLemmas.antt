@@ -5,7 +5,8 @@ use Rattle.std.proofs.lemmas.Bool.Decides.{nat_tests}
 use Rattle.std.proofs.lemmas.List.{at_drop_more, at_drop_all, length_push, get_or_append_left}
 use Rattle.std.proofs.lemmas.Fmt.{decimal_by_steps_wide, decimal_digit, decimal-digits_value}
 use Rattle.std.proofs.lemmas.Str.Parse.{IsNumeralModel, numerals_by_weight}
-use Rattle.std.proofs.Math.Nat.{pow-suc, one-le-pow, le-mul_of_pos_right}
+use Rattle.std.proofs.lemmas.Grind.{pow_more}
+use Rattle.std.proofs.Math.Nat.{pow-suc, one-le-pow, le-mul_of_pos_right, pow-le-pow_right}
 use Rattle.std.specs.Char.{is_ascii_digit}
 use Rattle.std.specs.Fmt.{decimal}
 use Rattle.std.specs.List.{list_all}
@@ -74,6 +75,18 @@ pub digits_after-over : (most before : ℕ) (field : List ℕ) (i : ℕ) → len
     → digits_after most before (drop i field) ≡ None
 digits_after-over most before field i past large =
     at_drop_all (digits_after most before) field i past ∙ digits_after-large most before [] large
+
+-- ---- digits that are few enough to fit
+
+-- fewer digits than nineteen, so that one more always fits in 64 bits
+pub few_digits_fit : (value i : ℕ) → value < 10 ^ i → i < 19 → value < 10 ^ 18
+few_digits_fit value i small few =
+    let most : 10 ^ i ≤ 10 ^ 18 = pow-le-pow_right (lit< tt) {i = i} {j = 18} (omega arith) in
+    omega arith
+
+-- one digit more multiplies the bound by ten
+pub few_digits-more : (value i d : ℕ) → value < 10 ^ i → d < 10 → value * 10 + d < 10 ^ (i + 1)
+few_digits-more value i d small digit = rw pow_more (omega arith)
 
 -- where there are digits and no leading zero, only the digits count
 pub number_in-digits : (max : ℕ) (field : List ℕ) → 0 < length field → has_leading_zero field ≡ false

@@ -1,7 +1,7 @@
 -- The value so far, and the digits that are left behind it, give the number that all digits write.
 use Rattle.std.proofs.Common.{◌≡◌, ◌<◌, drop, ◌^◌}
 use Rattle.graphite_base.specs.Numbers.{digits_after}
-use Rattle.graphite_base.proofs.numbers.value_of_digits.Given as goal
+use Rattle.graphite_base.proofs.numbers.value_of_many_digits.Given as goal
 
 abbrev pub invariant-loop-byte : goal.invariant-loop-byte
 invariant-loop-byte l =

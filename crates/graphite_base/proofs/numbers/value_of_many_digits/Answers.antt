@@ -2,7 +2,7 @@
 use Rattle.std.proofs.Common.{◌≡◌, ◌-◌, ◌+◌, ◌*◌, true, get_or, false, arith}
 use Rattle.std.specs.Char.{is_ascii_digit}
 use Rattle.graphite_base.proofs.NumberLemmas.{digits_after-more, digits_after-past, digits_after-stop, digits_after-all, digits_after-over}
-use Rattle.graphite_base.proofs.numbers.value_of_digits.Goals as goal
+use Rattle.graphite_base.proofs.numbers.value_of_many_digits.Goals as goal
 
 pub returns-in_err-shifted : goal.returns-in_err-shifted
 returns-in_err-shifted c =
