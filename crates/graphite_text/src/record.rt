@@ -292,10 +292,22 @@ fn are_name_bytes(text: &[u8]) -> bool
     text.iter().all(|c| is_name_byte(*c))
 }
 
+// Each byte of a name or a key stands at its own place, and a comma at every other place, so that one
+// look tells what a byte is.
+static NAME_BYTES: [u8; 256] = *b"\
+    ,,,,,,,,,,,,,,,,,,,,,,,,,,,,,,,,\
+    ,,,,,,,,,,,,,-.,0123456789:,,,,,\
+    ,ABCDEFGHIJKLMNOPQRSTUVWXYZ,,,,_\
+    ,abcdefghijklmnopqrstuvwxyz,,,,,\
+    ,,,,,,,,,,,,,,,,,,,,,,,,,,,,,,,,\
+    ,,,,,,,,,,,,,,,,,,,,,,,,,,,,,,,,\
+    ,,,,,,,,,,,,,,,,,,,,,,,,,,,,,,,,\
+    ,,,,,,,,,,,,,,,,,,,,,,,,,,,,,,,,";
+
 fn is_name_byte(c: u8) -> bool
     ensures { result ≡ is_name_byte c }
 {
-    matches!(c, b'A'..=b'Z' | b'a'..=b'z' | b'0'..=b'9' | b'_' | b'.' | b':' | b'-')
+    NAME_BYTES[usize::from(c)] != b','
 }
 
 fn horizon_in(field: &[u8]) -> Option<u64>
