@@ -23,11 +23,8 @@ use Rattle.graphite_api.specs.Rules.{Rules, computes, outcome_with, outcome_at, 
 use Rattle.graphite_loop.specs.Sweep.{sent_of}
 use Rattle.graphite_loop.specs.Vertex.{outcome_of, input_to, Calls, NoMoreCalls, outcome_of_pair, next_state, sent_state, pair_computes, inputs_of, Put, AreMade}
 
-pub AreMade-none : {X Y : Type 0} (f : X → Option Y) → AreMade f [] []
-AreMade-none f = record { runs = record { in_order = tt; values = λ t. refl }; end = omega arith }
-
 -- one more piece: what f makes of its value was put behind
-pub AreMade-more : {X Y : Type 0} (f : X → Option Y) (pieces : List (Piece X)) (mid new : List (Piece Y)) (k : ℕ) (piece : Piece X) → IsChain pieces → k < length pieces → piece ≡ get_or pieces k piece → AreMade f (take k pieces) mid → Put mid new piece.over (f piece.value) → AreMade f (take (k + 1) pieces) new
+AreMade-more : {X Y : Type 0} (f : X → Option Y) (pieces : List (Piece X)) (mid new : List (Piece Y)) (k : ℕ) (piece : Piece X) → IsChain pieces → k < length pieces → piece ≡ get_or pieces k piece → AreMade f (take k pieces) mid → Put mid new piece.over (f piece.value) → AreMade f (take (k + 1) pieces) new
 AreMade-more {X} {Y} f pieces mid new k piece chain within is so_far put = by (f piece.value) refl put
   where
     by : (o : Option Y) → f piece.value ≡ o → Put mid new piece.over o → AreMade f (take (k + 1) pieces) new
@@ -65,7 +62,7 @@ AreMade-more {X} {Y} f pieces mid new k piece chain within is so_far put = by (f
         at false t = sym (so_far.runs.values t)
 
 -- where what was made ends, the next may be put
-pub next_put : {X Y : Type 0} (f : X → Option Y) (pieces : List (Piece X)) (out : List (Piece Y)) (k : ℕ) (piece : Piece X) → IsChain pieces → k < length pieces → piece ≡ get_or pieces k piece → AreMade f (take k pieces) out → last_end out ≤ start_of piece.over
+next_put : {X Y : Type 0} (f : X → Option Y) (pieces : List (Piece X)) (out : List (Piece Y)) (k : ℕ) (piece : Piece X) → IsChain pieces → k < length pieces → piece ≡ get_or pieces k piece → AreMade f (take k pieces) out → last_end out ≤ start_of piece.over
 next_put f pieces out k piece chain within is so_far =
     omega (arith, so_far.end, (next_piece pieces k piece chain within is).1)
 
@@ -116,25 +113,18 @@ pub record HaveComputed {S M : Type 0} (rules : Rules S M) (k : ℕ) (triples : 
   pub sent_are : AreMade (λ pair. sent_state (outcome_of_pair rules k pair)) triples sent
   pub counted : now ≡ before + length (inputs_of rules k triples)
 
-pub HaveComputed-none : {S M : Type 0} (rules : Rules S M) (k : ℕ) (states sent : List (Piece S)) (count : ℕ) → states ≡ [] → sent ≡ [] → HaveComputed rules k [] states sent count count
-HaveComputed-none rules k states sent count none none' = record {
-  states_are = subst (AreMade (λ pair. next_state (outcome_of_pair rules k pair)) []) (sym none) (AreMade-none _);
-  sent_are = subst (AreMade (λ pair. sent_state (outcome_of_pair rules k pair)) []) (sym none') (AreMade-none _);
-  counted = omega arith;
-}
-
 abbrev one_if : Bool → ℕ
 one_if b = cond b 1 0
 
 -- the calls so far, and the one that comes
-pub count_more : {S M : Type 0} (rules : Rules S M) (k : ℕ) (triples : List (Piece (S × List M))) (before mid now i : ℕ) (triple : Piece (S × List M)) → i < length triples → triple ≡ get_or triples i triple → mid ≡ before + length (inputs_of rules k (take i triples)) → now ≡ mid + cond (pair_computes rules k triple.value) 1 0 → now ≡ before + length (inputs_of rules k (take (i + 1) triples))
+count_more : {S M : Type 0} (rules : Rules S M) (k : ℕ) (triples : List (Piece (S × List M))) (before mid now i : ℕ) (triple : Piece (S × List M)) → i < length triples → triple ≡ get_or triples i triple → mid ≡ before + length (inputs_of rules k (take i triples)) → now ≡ mid + cond (pair_computes rules k triple.value) 1 0 → now ≡ before + length (inputs_of rules k (take (i + 1) triples))
 count_more rules k triples before mid now i triple within is so_far one =
     let more = length-filter_more (λ (x : Piece _). pair_computes rules k x.value) triples i triple within in
     let same = ap (λ (x : Piece _). one_if (pair_computes rules k x.value)) (sym is) in
     omega (arith, more, same, so_far, one)
 
 -- what is known when a triple was computed and put behind
-pub HaveComputed-more : {S M : Type 0} (rules : Rules S M) (k : ℕ) (triples : List (Piece (S × List M))) (states sent states' sent' : List (Piece S)) (before mid now i : ℕ) (triple : Piece (S × List M)) (next : Next S)
+HaveComputed-more : {S M : Type 0} (rules : Rules S M) (k : ℕ) (triples : List (Piece (S × List M))) (states sent states' sent' : List (Piece S)) (before mid now i : ℕ) (triple : Piece (S × List M)) (next : Next S)
     → IsChain triples → i < length triples → triple ≡ get_or triples i triple → HaveComputed rules k (take i triples) states sent before mid
     → next ≡ outcome_of_pair rules k triple.value → now ≡ mid + cond (pair_computes rules k triple.value) 1 0
     → Put states states' triple.over (next_state next) → Put sent sent' triple.over (sent_state next)
@@ -155,7 +145,7 @@ length-filter_take {X} p (x ∷ xs) (suc i) = by (length-filter_take p xs i) (p 
     by rest false = rest
 
 -- no more than all of them
-pub no_more : {S M : Type 0} (rules : Rules S M) (k : ℕ) (triples : List (Piece (S × List M))) (i : ℕ) → length (inputs_of rules k (take i triples)) ≤ length (inputs_of rules k triples)
+no_more : {S M : Type 0} (rules : Rules S M) (k : ℕ) (triples : List (Piece (S × List M))) (i : ℕ) → length (inputs_of rules k (take i triples)) ≤ length (inputs_of rules k triples)
 no_more rules k triples i = length-filter_take (λ (x : Piece _). pair_computes rules k x.value) triples i
 
 length-filter-le : {X : Type 0} (p : X → Bool) (xs : List X) → length (filter p xs) ≤ length xs
@@ -167,7 +157,7 @@ length-filter-le {X} p (x ∷ xs) = by (length-filter-le p xs) (p x)
     by rest false = omega (arith, rest)
 
 -- so many triples need no more calls
-pub few_inputs : {S M : Type 0} (rules : Rules S M) (k : ℕ) (triples : List (Piece (S × List M))) (i : ℕ) → i ≤ length triples → length (inputs_of rules k (take i triples)) ≤ i
+few_inputs : {S M : Type 0} (rules : Rules S M) (k : ℕ) (triples : List (Piece (S × List M))) (i : ℕ) → i ≤ length triples → length (inputs_of rules k (take i triples)) ≤ i
 few_inputs rules k triples i within =
     omega (arith, length-filter-le (λ (x : Piece _). pair_computes rules k x.value) (take i triples), length-take-le i triples within)
 
@@ -177,7 +167,7 @@ chain_fits piece [] chain = omega arith
 chain_fits piece (next ∷ pieces) chain =
     omega (arith, chain_fits next pieces chain.1, chain.0.0, next.over.proper.0)
 
-pub few_pieces : {X : Type 0} (pieces : List (Piece X)) → IsChain pieces → length pieces < 18446744073709551616
+few_pieces : {X : Type 0} (pieces : List (Piece X)) → IsChain pieces → length pieces < 18446744073709551616
 few_pieces [] chain = omega arith
 few_pieces (piece ∷ pieces) chain =
     omega (arith, chain_fits piece pieces chain, piece.over.proper.0, last_end_from-LAST (end_of piece.over) pieces piece.over.proper.1)
@@ -195,13 +185,6 @@ pub record AreComputed {S M : Type 0} (rules : Rules S M) (k : ℕ) (triples : L
   pub within : now.place ≤ length triples
   pub made : HaveComputed rules k (take now.place triples) states sent before count
 
-pub AreComputed-none : {S M : Type 0} (rules : Rules S M) (k : ℕ) (now : Aligned S M) (states sent : List (Piece S)) (count : ℕ) → now.place ≡ 0 → states ≡ [] → sent ≡ [] → AreComputed rules k now.triples now states sent count count
-AreComputed-none rules k now states sent count begun none none' = record {
-  same = refl;
-  within = omega (arith, begun);
-  made = subst (λ n. HaveComputed rules k (take n now.triples) states sent count count) (sym begun) (HaveComputed-none rules k states sent count none none');
-}
-
 -- the triple that is handed out next
 module _ {S M : Type 0} (rules : Rules S M) (k : ℕ) (triples : List (Piece (S × List M))) (old new : Aligned S M) (states sent : List (Piece S)) (before mid : ℕ) (part : Piece S) (given : Option (Piece S)) (is : given ≡ Some part) (chain : IsChain triples) (so_far : AreComputed rules k triples old states sent before mid) (handed_out : IsNext old given new) where
   step : IsNext old (Some part) new
@@ -213,7 +196,7 @@ module _ {S M : Type 0} (rules : Rules S M) (k : ℕ) (triples : List (Piece (S 
   at_place : slice_get triples old.place ≡ Some triple_of
   at_place = subst (λ xs. slice_get xs old.place ≡ Some triple_of) so_far.same step.0
 
-  pub place_within : old.place < length triples
+  place_within : old.place < length triples
   place_within = slice_get_within triples old.place triple_of at_place
 
   triple_is : triple_of ≡ get_or triples old.place triple_of
