@@ -2,7 +2,6 @@
 use Rattle.std.proofs.Common.{◌≡◌, ℕ, zero, suc, ◌+◌, ◌<◌, ◌≤◌, List, [], ◌∷◌, length, get_or, Option, Some, Ordering, refl, sym, ◌∙◌, ap, subst, arith, Result, Ok, Err, OnOk, OnErr, slice_get}
 use Rattle.std.specs.Cmp.{IsTotalOrder}
 use Rattle.std.specs.List.Sorted.{IsPermutation}
-use Rattle.std.proofs.lemmas.List.{length-map}
 use Rattle.graphite_time.specs.Interval.{start_of}
 use Rattle.graphite_part.specs.Plain.{IsExact}
 use Rattle.graphite_part.specs.declared.piece.Piece.{Piece}
@@ -34,10 +33,6 @@ module _ {S M : Type 0} (cmp : M → M → Ordering) where
       (subst (λ ps. AreRuns (warped cmp touch_is.All (value_at ps) starts) (triples_of cmp starts parts)) own
       (subst (λ ms. AreRuns (warped cmp touch_is.All (value_at pieces) ms) (triples_of cmp ms parts)) same ok))
   runs_of_all (Err e) total exact messages moved starts states pieces parts permuted same own ok = tt
-
-  pub few_triples : {E : Type 0} (r : Result Unit E) (messages : List (Message M)) (parts : List (Piece S)) → length parts < 18446744073709551616 → OnOk r (length (triples_of cmp messages parts) < 18446744073709551616)
-  few_triples (Ok x) messages parts few = omega (arith, few, length-map parts (triple_of cmp messages))
-  few_triples (Err e) messages parts few = tt
 
   map_at : (messages : List (Message M)) (parts : List (Piece S)) (k : ℕ) (d : Piece S) → k < length parts → slice_get (triples_of cmp messages parts) k ≡ Some (triple_of cmp messages (get_or parts k d))
   map_at messages [] k d within = absurd (omega (arith, within))

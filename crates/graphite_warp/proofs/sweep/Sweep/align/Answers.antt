@@ -1,6 +1,6 @@
 -- The parts between the changes are the triples.
-use Rattle.std.proofs.Common.{rules, ◌∙◌}
-use Rattle.graphite_warp.proofs.CarryLemmas.{IsCarried-none, IsCarried-filled, runs_of_all, few_triples}
+use Rattle.std.proofs.Common.{◌∙◌}
+use Rattle.graphite_warp.proofs.CarryLemmas.{IsCarried-none, IsCarried-filled, runs_of_all}
 use Rattle.graphite_warp.proofs.sweep.Sweep.align.Goals as goal
 
 pub invariant_of-self : goal.invariant_of-self
@@ -18,7 +18,3 @@ invariant_of-self-2 g c =
 pub returns-clause-triples : goal.returns-clause-triples
 returns-clause-triples g c =
     runs_of_all g.M.Ord.cmp c.fill_parts.result g.met.M.Ord.total g.met.M.Plain.exact c.args.messages.now c.new-changes.result c.load.new.self.starts c.args.states.now c.pieces.result.now c.fill_parts.new.parts.items c.in_ok-load.ensures (c.new-changes.ensures ∙ c.starts-starts.ensures.value) c.pieces.ensures.pieces c.fill_parts.ensures.ok
-
-pub returns-clause-few : goal.returns-clause-few
-returns-clause-few g c =
-    few_triples g.M.Ord.cmp c.fill_parts.result c.load.new.self.starts c.fill_parts.new.parts.items (search rules)
