@@ -1,22 +1,23 @@
--- Pieces that are made of other pieces, one after another; and the pieces whose values pass a test.
-use Rattle.std.proofs.Common.{◌≡◌, ℕ, zero, suc, ◌+◌, ◌-◌, ◌<◌, ◌≤◌, Bool, true, false, List, [], ◌∷◌, length, get_or, slice_get, take, filter, Option, Some, None, option_map, cond, refl, sym, ◌∙◌, ap, subst, arith, ⊎_elim, inr, Result, Ok, Err, IfOk, OnErr}
+-- Pieces that are made of other pieces, one after another; and lists of pieces that are the same.
+use Rattle.std.proofs.Common.{◌≡◌, ℕ, zero, suc, ◌+◌, ◌-◌, ◌<◌, ◌≤◌, Bool, true, false, List, [], ◌∷◌, length, get_or, slice_get, take, filter, Option, Some, None, option_map, cond, refl, sym, ◌∙◌, ap, subst, arith, ⊎_elim, inr, Result, Ok, Err, OnOk, OnErr}
 use Rattle.std.specs.Option.{option_and_then}
 use Rattle.std.proofs.lemmas.Bool.{cond-true, cond-false, cases_lt}
-use Rattle.std.proofs.lemmas.List.{length-take-le, take_all}
+use Rattle.std.proofs.lemmas.List.{length-take-le, take_all, get_or_default, same_lists}
 use Rattle.std.proofs.lemmas.Option.{slice_get_within, get_or_from_slice_get}
 use Rattle.std.proofs.lemmas.List.Filters.{length-filter_more}
 use Rattle.std.specs.declared.cmp.Ordering.{Ordering}
 use Rattle.graphite_time.specs.Interval.{start_of, end_of, holds}
 use Rattle.graphite_time.proofs.LifeLemmas.{holds-true, holds_before}
 use Rattle.graphite_part.specs.declared.piece.Piece.{Piece}
-use Rattle.graphite_part.specs.Pieces.{value_at, IsChain, StandsBefore, AreRuns, last_end, last_end_from}
+use Rattle.graphite_part.specs.Pieces.{painted, value_at, IsChain, StandsBefore, AreRuns, last_end, last_end_from}
 use Rattle.graphite_part.proofs.CopyLemmas.{next_piece, last_end_from-LAST}
 use Rattle.graphite_part.proofs.FillLemmas.{value_at-past}
-use Rattle.graphite_part.proofs.PiecesLemmas.{value_at-tail}
+use Rattle.graphite_part.proofs.PiecesLemmas.{AreRuns-unique}
 use Rattle.graphite_part.proofs.CopyLemmas.{IsChain-take}
 use Rattle.graphite_api.specs.declared.next.Next.{Next}
 use Rattle.graphite_warp.specs.declared.message.Message.{Message}
 use Rattle.graphite_warp.specs.declared.touch.Touch.TheVariants.{All}
+use Rattle.graphite_warp.proofs.FilterLemmas.{IsChain-filter, value_at-filter, passing}
 use Rattle.graphite_warp.specs.Aligned.{Aligned, IsNext}
 use Rattle.graphite_warp.specs.Warp.{notes_at, warped}
 use Rattle.graphite_api.specs.Rules.{Rules, computes, outcome_with, outcome_at, state_of, input_of}
@@ -65,47 +66,6 @@ AreMade-more {X} {Y} f pieces mid new k piece chain within is so_far put = by (f
 next_put : {X Y : Type 0} (f : X → Option Y) (pieces : List (Piece X)) (out : List (Piece Y)) (k : ℕ) (piece : Piece X) → IsChain pieces → k < length pieces → piece ≡ get_or pieces k piece → AreMade f (take k pieces) out → last_end out ≤ start_of piece.over
 next_put f pieces out k piece chain within is so_far =
     omega (arith, so_far.end, (next_piece pieces k piece chain within is).1)
-
--- the pieces whose values pass a test
-stands_before-filter : {X : Type 0} (p : X → Bool) (piece : Piece X) (pieces : List (Piece X)) → IsChain (piece ∷ pieces) → StandsBefore piece (filter (λ x. p x.value) pieces)
-stands_before-filter p piece [] chain = tt
-stands_before-filter {X} p piece (next ∷ pieces) chain = by (p next.value) refl (later piece next pieces chain)
-  where
-    -- what may stand before the first may stand before those after it, which it does not touch
-    later : (piece next : Piece X) (pieces : List (Piece X)) → IsChain (piece ∷ next ∷ pieces) → StandsBefore piece (filter (λ x. p x.value) pieces)
-    later piece next [] chain = tt
-    later piece next (third ∷ pieces) chain = by3 (p third.value) refl (later piece third pieces ((omega (arith, chain.0.0, chain.1.0.0, next.over.proper.0), λ touch. absurd (omega (arith, touch, chain.0.0, chain.1.0.0, next.over.proper.0))), chain.1.1))
-      where
-        by3 : (b : Bool) → p third.value ≡ b → StandsBefore piece (filter (λ x. p x.value) pieces) → StandsBefore piece (cond b (third ∷ filter (λ x. p x.value) pieces) (filter (λ x. p x.value) pieces))
-        by3 true e rest = (omega (arith, chain.0.0, chain.1.0.0, next.over.proper.0), λ touch. absurd (omega (arith, touch, chain.0.0, chain.1.0.0, next.over.proper.0)))
-        by3 false e rest = rest
-
-    by : (b : Bool) → p next.value ≡ b → StandsBefore piece (filter (λ x. p x.value) pieces) → StandsBefore piece (cond b (next ∷ filter (λ x. p x.value) pieces) (filter (λ x. p x.value) pieces))
-    by true e rest = chain.0
-    by false e rest = rest
-
-pub IsChain-filter : {X : Type 0} (p : X → Bool) (pieces : List (Piece X)) → IsChain pieces → IsChain (filter (λ x. p x.value) pieces)
-IsChain-filter p [] chain = tt
-IsChain-filter {X} p (piece ∷ pieces) chain = by (p piece.value) (IsChain-filter p pieces chain.1)
-  where
-    by : (b : Bool) → IsChain (filter (λ x. p x.value) pieces) → IsChain (cond b (piece ∷ filter (λ x. p x.value) pieces) (filter (λ x. p x.value) pieces))
-    by true rest = (stands_before-filter p piece pieces chain, rest)
-    by false rest = rest
-
--- a value that passes the test, or nothing
-abbrev pub passing : {X : Type 0} → (X → Bool) → X → Option X
-passing p x = cond (p x) (Some x) None
-
-pub value_at-filter : {X : Type 0} (p : X → Bool) (pieces : List (Piece X)) (t : ℕ) → IsChain pieces → value_at (filter (λ x. p x.value) pieces) t ≡ option_and_then (passing p) (value_at pieces t)
-value_at-filter p [] t chain = refl
-value_at-filter {X} p (piece ∷ pieces) t chain = by (value_at-filter p pieces t chain.1) (p piece.value) refl (holds piece.over t) refl
-  where
-    by : value_at (filter (λ x. p x.value) pieces) t ≡ option_and_then (passing p) (value_at pieces t) → (b : Bool) → p piece.value ≡ b → (h : Bool) → holds piece.over t ≡ h → value_at (cond b (piece ∷ filter (λ x. p x.value) pieces) (filter (λ x. p x.value) pieces)) t ≡ option_and_then (passing p) (cond h (Some piece.value) (value_at pieces t))
-    by rest true e true here = cond-true _ _ _ here ∙ sym (cond-true _ _ _ e)
-    by rest true e false there = cond-false _ _ _ there ∙ rest
-    by rest false e true here =
-        rest ∙ ap (option_and_then (passing p)) (value_at-tail piece pieces t chain (holds-true piece.over t here).1) ∙ sym (cond-false _ _ _ e)
-    by rest false e false there = rest
 
 -- the triples so far were computed: what was made of them, and the calls
 pub record HaveComputed {S M : Type 0} (rules : Rules S M) (k : ℕ) (triples : List (Piece (S × List M))) (states sent : List (Piece S)) (before now : ℕ) : Type 0 where
@@ -275,10 +235,42 @@ module _ {S M : Type 0} (rules : Rules S M) (k : ℕ) (pieces : List (Piece S)) 
   NoMoreCalls-made before after at_most = inr (record { inputs = inputs_of rules k triples; inputs_are = inputs-made; at_most = at_most })
 
 -- what follows of a result's value, and of what holds in any case
-pub IfOk-then : {X E : Type 0} (r : Result X E) (P Q : X → Type 0) → IfOk r P → ((x : X) → P x → Q x) → IfOk r Q
-IfOk-then (Ok x) P Q h then = then x h
-IfOk-then (Err e) P Q h then = tt
+pub OnOk-then : {X E : Type 0} (r : Result X E) (P Q : Type 0) → OnOk r P → (P → Q) → OnOk r Q
+OnOk-then (Ok x) P Q h then = then h
+OnOk-then (Err e) P Q h then = tt
 
 pub OnErr-from : {X E : Type 0} (r : Result X E) (P : Type 0) → P → OnErr r P
 OnErr-from (Ok x) P h = tt
 OnErr-from (Err e) P h = h
+
+-- a partition that is made of the pieces of a chain, one after the other
+pub partition-more : {X : Type 0} (pieces mid new : List (Piece X)) (k : ℕ) (piece : Piece X) → IsChain pieces → k < length pieces → piece ≡ get_or pieces k piece → mid ≡ take k pieces → AreRuns (painted (value_at mid) piece.over piece.value) new → new ≡ take (k + 1) pieces
+partition-more pieces mid new k piece chain within is so_far runs =
+    let next = next_piece pieces k piece chain within is in
+    AreRuns-unique (painted (value_at (take k pieces)) piece.over piece.value) new (take (k + 1) pieces) (subst (λ xs. AreRuns (painted (value_at xs) piece.over piece.value) new) so_far runs) (record { in_order = IsChain-take (k + 1) pieces chain; values = next.3 })
+
+pub partition-put : {X : Type 0} (pieces mid : List (Piece X)) (k : ℕ) (piece : Piece X) → IsChain pieces → k < length pieces → piece ≡ get_or pieces k piece → mid ≡ take k pieces → last_end mid ≤ start_of piece.over
+partition-put pieces mid k piece chain within is so_far =
+    omega (arith, ap last_end so_far, (next_piece pieces k piece chain within is).1)
+
+-- two lists of pieces that are the same at each place so far
+pub record AreSameTo {X : Type 0} (xs ys : List (Piece X)) (k : ℕ) : Type 0 where
+  pub len : length xs ≡ length ys
+  pub same : (i : ℕ) (d : Piece X) → i < k → get_or xs i d ≡ get_or ys i d
+
+pub AreSameTo-none : {X : Type 0} (xs ys : List (Piece X)) → length xs ≡ length ys → AreSameTo xs ys 0
+AreSameTo-none xs ys len = record { len = len; same = λ i d early. absurd (omega (arith, early)) }
+
+pub AreSameTo-more : {X : Type 0} (xs ys : List (Piece X)) (k : ℕ) (x y : Piece X) → k < length xs → x ≡ get_or xs k x → y ≡ get_or ys k y → x ≡ y → AreSameTo xs ys k → AreSameTo xs ys (k + 1)
+AreSameTo-more {X} xs ys k x y within is is' same so_far = record { len = so_far.len; same = more }
+  where
+    more : (i : ℕ) (d : Piece X) → i < k + 1 → get_or xs i d ≡ get_or ys i d
+    more i d early =
+        ⊎_elim (λ (old : i < k). so_far.same i d old) (λ (new : k ≤ i). here (omega (arith, early, new))) (cases_lt i k)
+      where
+        here : i ≡ k → get_or xs i d ≡ get_or ys i d
+        here e =
+            ap (λ n. get_or xs n d) e ∙ get_or_default xs k d x within ∙ sym is ∙ same ∙ is' ∙ get_or_default ys k y d (omega (arith, within, so_far.len)) ∙ ap (λ n. get_or ys n d) (sym e)
+
+pub AreSameTo-all : {X : Type 0} (xs ys : List (Piece X)) (k : ℕ) → length xs ≤ k → AreSameTo xs ys k → xs ≡ ys
+AreSameTo-all xs ys k all so_far = same_lists xs ys so_far.len (λ i d within. so_far.same i d (omega (arith, within, all)))

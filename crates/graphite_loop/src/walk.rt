@@ -9,7 +9,7 @@ ghost use Rattle.graphite_loop.specs.Walk.{IsWalked, IsGivenUp};
 
 use crate::Delivery;
 use crate::scatter::scatter;
-use crate::vertex::compute_vertex;
+use crate::vertex::{Outcome, compute_vertex, set_states};
 use graphite_api::{Arc, ArcTable, Message, Program};
 use graphite_part::{Partition, Plain};
 use graphite_time::NoMemory;
@@ -29,6 +29,7 @@ pub(crate) struct Made<S: Plain, M: Plain> {
 struct Buffers<S: Plain, M: Plain> {
     sweep: Sweep<S, M>,
     messages: Vec<Message<M>>,
+    outcome: Outcome<S>,
 }
 
 /// Makes superstep `step`: only the vertices that compute, and the arcs of those that send, are
@@ -62,6 +63,7 @@ fn walk<P: Program>(
     let mut buffers = Buffers {
         sweep: Sweep::new(alloc),
         messages: Vec::new(alloc),
+        outcome: Outcome::new(alloc),
     };
     let mut rest = deliveries;
     let mut next = 0;
@@ -153,17 +155,17 @@ fn step_vertex<P: Program>(
 {
     let alloc = *made.deliveries.allocator();
     copy_messages(&mut buffers.messages, deliveries)?;
-    let outcome = compute_vertex(
-        alloc,
+    compute_vertex(
         program,
         step,
         &made.states[v as usize],
         &buffers.messages,
         &mut buffers.sweep,
+        &mut buffers.outcome,
     )?;
-    made.states[v as usize] = outcome.states;
-    scatter(program, arcs, outcome.sent.pieces(), &mut made.deliveries)?;
-    made.sends = made.sends || !outcome.sent.pieces().is_empty();
+    set_states(&mut made.states[v as usize], alloc, &buffers.outcome.states)?;
+    scatter(program, arcs, &buffers.outcome.sent, &mut made.deliveries)?;
+    made.sends = made.sends || !buffers.outcome.sent.is_empty();
     Ok(())
 }
 
