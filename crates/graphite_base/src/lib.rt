@@ -1,6 +1,7 @@
 //! The outside of the engine: bytes come in and go out in order, and faults are counted.
 #![tactic(auto)]
 
+mod bytes;
 mod numbers;
 mod reading;
 mod script;
@@ -14,6 +15,7 @@ mod std_source;
 mod vec_sink;
 mod writing;
 
+pub use bytes::Bytes;
 pub use numbers::{number_of, push_number};
 pub use reading::{ReadText, TEXT_LIMIT, read_text};
 pub use script_sink::ScriptSink;
