@@ -1,7 +1,6 @@
 -- What a table of arcs and the starts of the vertices make of a graph: at every instant the graph of that instant.
-use Rattle.std.proofs.Common.{◌≡◌, ◌∙◌, sym, ap, refl, subst, ℕ, suc, ◌+◌, ◌<◌, ◌≤◌, ◌||◌, Bool, true, false, cond, List, [], ◌∷◌, map, length, get_or, Option, Some, None, IsSome, IsTrue, option_map, arith, ⊎_elim}
+use Rattle.std.proofs.Common.{◌≡◌, ◌∙◌, sym, ap, refl, subst, ℕ, ◌<◌, ◌≤◌, Bool, true, false, cond, List, [], map, length, get_or, Option, Some, None, IsSome, IsTrue, option_map, arith, ⊎_elim}
 use Rattle.std.specs.Prelude.{◌↔◌}
-use mathlib.Core.Path.{fun_ext}
 use Rattle.std.specs.Cmp.{IsTotalOrder}
 use Rattle.std.specs.Option.{ForSome}
 use Rattle.std.specs.List.Sorted.{IsPermutation}
@@ -10,8 +9,7 @@ use Rattle.std.proofs.lemmas.Bool.{cases_lt}
 use Rattle.std.proofs.lemmas.List.{length-map, get_or_past}
 use Rattle.graphite_time.specs.declared.interval.Interval.{Interval}
 use Rattle.graphite_time.specs.Life.{is_held}
-use Rattle.graphite_time.proofs.LifeLemmas.{holds_after}
-use Rattle.graphite_text.specs.Graph.{PlainGraph, is_alive, vertex_life, vertex_is_alive}
+use Rattle.graphite_text.specs.Graph.{PlainGraph, vertex_is_alive}
 use Rattle.graphite_text.specs.Spans.{as_span}
 use Rattle.graphite_text.specs.declared.span.Span.{Span}
 use Rattle.graphite_part.specs.Plain.{IsExact}
@@ -24,8 +22,6 @@ use Rattle.graphite_api.specs.Table.{vertex_is_alive as is_alive_in}
 use Rattle.graphite_graph.specs.declared.facts.Ask.{Ask}
 use Rattle.graphite_graph.specs.declared.facts.Facts.{Facts}
 use Rattle.graphite_graph.specs.Facts.{facts_of, facts_at, AreMadeOf}
-use Rattle.graphite_graph.specs.Life.{EndsBy}
-use Rattle.graphite_graph.proofs.LifeLemmas.{is_alive-as_span}
 use Rattle.graphite_hops.specs.declared.direction.Direction.{Direction}
 use Rattle.graphite_hops.specs.Links.{links_at, links_in}
 use Rattle.graphite_loop.specs.Points.{initial_at, EndBy, IsPointRun}

@@ -1,15 +1,18 @@
 -- Breadth-first search as plain functions: the least number of edges from the source to each vertex, which starts with
 -- 0 at the source and with nothing elsewhere.
-use Rattle.std.specs.Prelude.{ℕ, ◌+◌, ◌-◌, ◌^◌, ◌==◌, min, true, false, if◌then◌else◌, List, Option, None, Some, is_some, option_map}
+use Rattle.std.specs.Prelude.{◌≡◌, ℕ, ◌+◌, ◌-◌, ◌^◌, ◌==◌, ◌<◌, min, true, false, if◌then◌else◌, List, length, Option, None, Some, is_some, option_map}
 use Rattle.std.specs.Option.{option_cmp}
 use Rattle.std.specs.Ordering.{nat_cmp}
-use Rattle.graphite_graph.specs.declared.facts.Ask.{Ask}
-use Rattle.graphite_graph.specs.declared.facts.Facts.{Facts}
+use Rattle.graphite_text.specs.Graph.{PlainGraph}
 use Rattle.graphite_api.specs.declared.next.Next.{Next}
 use Rattle.graphite_api.specs.Plan.{Plan}
+use Rattle.graphite_api.specs.Snapshot.{Link}
 use Rattle.graphite_hops.specs.declared.direction.Direction.TheVariants.{Out}
-use Rattle.graphite_snap.specs.Description.{Description}
+use Rattle.graphite_hops.specs.Links.{links_at}
+use Rattle.graphite_snap.specs.Best.{IsLeast}
+use Rattle.graphite_snap.specs.Description.{Description, number_alone, zero_at}
 use Rattle.graphite_snap.specs.Least.{least}
+use Rattle.graphite_snap.specs.Walk.{IsWalk}
 
 -- a vertex that has no number takes the least that it is told, and sends it on; one that has a number keeps it
 abbrev pub told : Option ℕ → Option ℕ → Next (Option ℕ)
@@ -32,22 +35,19 @@ bfs_note state time cost = option_map one_more state
 abbrev pub bfs_plan : Plan (Option ℕ) ℕ
 bfs_plan = record { next = bfs_next; note = bfs_note; order = nat_cmp; always = false }
 
--- no more is asked for than the number of a vertex
-abbrev pub number_alone : Ask
-number_alone = record { outdegree = false }
-
--- the source starts with 0, and every other vertex with nothing
-abbrev pub bfs_start : ℕ → Facts → Option ℕ
-bfs_start source facts = if facts.vertex == source then Some 0 else None
-
 -- a search from the vertex with this number
 abbrev pub bfs : ℕ → Description (Option ℕ) ℕ
 bfs source = record {
   source = Some source;
   ask = number_alone;
   direction = Out;
-  start = bfs_start source;
+  start = zero_at source;
   plan = bfs_plan;
   order = option_cmp nat_cmp;
   printed = λ state. state;
 }
+
+-- in plain words: the least number of edges of a walk of fewer than so many edges from the source, at the instant
+abbrev pub bfs_equation : ℕ → PlainGraph → (steps v t : ℕ) → Option ℕ → Type 0
+bfs_equation source graph steps v t value =
+    IsLeast (λ n. (walk : List Link) × IsWalk (links_at graph t) source walk v × (length walk ≡ n) × (n < steps)) value

@@ -1,5 +1,5 @@
 -- A program of snapshots by what makes it, and what a program gives for a graph.
-use Rattle.std.specs.Prelude.{ℕ, List, length, Option, None, option_map}
+use Rattle.std.specs.Prelude.{ℕ, ◌==◌, false, if◌then◌else◌, length, Option, None, Some, option_map}
 use Rattle.std.specs.declared.cmp.Ordering.{Ordering}
 use Rattle.graphite_text.specs.Graph.{PlainGraph}
 use Rattle.graphite_graph.specs.declared.facts.Ask.{Ask}
@@ -23,6 +23,14 @@ pub record Description (S M : Type 0) : Type 0 where
   pub plan : Plan S M
   pub order : S → S → Ordering
   pub printed : S → Option ℕ
+
+-- no more is asked for than the number of a vertex
+abbrev pub number_alone : Ask
+number_alone = record { outdegree = false; n = false; key = None }
+
+-- a program that starts from a vertex: 0 there, and nothing at every other vertex
+abbrev pub zero_at : ℕ → Facts → Option ℕ
+zero_at source facts = if facts.vertex == source then Some 0 else None
 
 -- The graph at one instant, for a program that goes this way along the edges: each vertex that is alive
 -- starts with what `init` makes of its facts.

@@ -1,5 +1,13 @@
 pub mod Least
+pub mod Best
+pub mod Walk
+pub mod Sound
 pub mod Description
 pub mod Degree
 pub mod Bfs
+pub mod Components
+pub mod Max
+pub mod Distance
+pub mod RankLaws
+pub mod Rank
 pub mod Answers

@@ -1,16 +1,21 @@
 //! Breadth-first search.
-ghost use Rattle.std.specs.Prelude.{◌≡◌, false, refl};
+ghost use Rattle.std.specs.Prelude.{◌≡◌, ◌≤◌, false, refl, IfOk};
 ghost use Rattle.std.specs.List.Sorted.{IsSorted};
 ghost use Rattle.std.specs.Ordering.{nat_cmp};
+ghost use Rattle.graphite_api.specs.declared.TheConstants.{STEP_LIMIT};
 ghost use Rattle.graphite_api.specs.Rules.{point_rules};
-ghost use Rattle.graphite_snap.specs.Bfs.{bfs, bfs_next, bfs_plan};
+ghost use Rattle.graphite_snap.specs.Answers.{IsAnswer, AreSaid};
+ghost use Rattle.graphite_snap.specs.Bfs.{bfs, bfs_equation, bfs_next, bfs_plan};
+ghost use Rattle.graphite_snap.specs.Description.{meaning};
 
-use crate::described::SnapProgram;
+use crate::SnapAnswer;
+use crate::described::{SnapProgram, answer_of};
 use crate::least::least;
 use graphite_api::{Arc, Message, Next, PointProgram, Program};
-use graphite_graph::{Ask, Facts};
+use graphite_graph::{Ask, Facts, Graph};
 use graphite_hops::Direction;
-use graphite_time::Interval;
+use graphite_time::{Interval, NoMemory};
+use std::alloc::Global;
 use std::marker::Model;
 
 /// Breadth-first search: for each vertex the least number of edges from the source, by vertices that
@@ -82,8 +87,8 @@ impl PointProgram for Bfs {
 
 /// A search from the vertex with this number.
 #[derive(Clone, Copy, Debug, PartialEq, Eq)]
-pub(crate) struct Search {
-    pub source: u32,
+struct Search {
+    source: u32,
 }
 
 impl SnapProgram for Search {
@@ -95,8 +100,12 @@ impl SnapProgram for Search {
         Bfs::new()
     }
 
-    fn ask(&self) -> Ask {
-        Ask { outdegree: false }
+    fn ask(&self, _alloc: Global) -> Result<Ask, NoMemory> {
+        Ok(Ask {
+            outdegree: false,
+            n: false,
+            key: None,
+        })
     }
 
     fn direction(&self) -> Direction {
@@ -114,6 +123,24 @@ impl SnapProgram for Search {
     ghost plan_is = { λ described. refl };
 
     ghost states_are = { λ described x y. refl };
+}
+
+/// A search from a vertex, with at most `steps` supersteps, of which there are 1 to
+/// [`graphite_api::STEP_LIMIT`].
+pub(crate) fn bfs_of(
+    alloc: Global,
+    graph: &Graph<'_>,
+    source: u32,
+    steps: u32,
+) -> Result<SnapAnswer, NoMemory>
+    requires some { 1 ≤ steps }
+    requires few { steps ≤ STEP_LIMIT }
+    ensures answer { IfOk result (λ answer. IsAnswer (meaning (bfs source)) graph.now steps
+        answer.values.items answer.made answer.calls) }
+    ensures equation { IfOk result (λ answer. AreSaid graph.now
+        (bfs_equation source graph.now steps) answer.values.items) }
+{
+    answer_of(alloc, graph, &Search { source }, steps)
 }
 
 /// What a vertex has after a superstep.

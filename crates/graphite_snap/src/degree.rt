@@ -1,7 +1,7 @@
 //! The out-degree of each vertex, which makes no superstep.
 ghost use Rattle.std.specs.Prelude.{◌≡◌, ℕ, IfOk};
-ghost use Rattle.graphite_snap.specs.Answers.{IsAnswer};
-ghost use Rattle.graphite_snap.specs.Degree.{degree};
+ghost use Rattle.graphite_snap.specs.Answers.{IsAnswer, AreSaid};
+ghost use Rattle.graphite_snap.specs.Degree.{degree, degree_equation};
 
 use crate::SnapAnswer;
 use crate::start::point_start;
@@ -11,10 +11,16 @@ use std::alloc::Global;
 
 /// The out-degree of each vertex at each instant of its life, however many supersteps are allowed.
 pub(crate) fn degrees(alloc: Global, graph: &Graph<'_>) -> Result<SnapAnswer, NoMemory>
-    ensures { IfOk result (λ answer. (steps : ℕ) → IsAnswer degree graph.now steps
+    ensures answer { IfOk result (λ answer. (steps : ℕ) → IsAnswer degree graph.now steps
         answer.values.items answer.made answer.calls) }
+    ensures equation { IfOk result (λ answer. (steps : ℕ) → AreSaid graph.now
+        (degree_equation graph.now steps) answer.values.items) }
 {
-    let ask = Ask { outdegree: true };
+    let ask = Ask {
+        outdegree: true,
+        n: false,
+        key: None,
+    };
     let outdegree = |facts: Facts| Some(u64::from(facts.outdegree));
     Ok(SnapAnswer {
         values: point_start(alloc, graph, &ask, &outdegree)?,

@@ -1,8 +1,9 @@
 //! A program of snapshots as one description, and its answer for a graph.
-ghost use Rattle.std.specs.Prelude.{◌≡◌, ◌≤◌, IfOk};
+ghost use Rattle.std.specs.Prelude.{◌≡◌, ◌≤◌, ℕ, IfOk};
 ghost use Rattle.graphite_api.specs.declared.TheConstants.{STEP_LIMIT};
 ghost use Rattle.graphite_snap.specs.Answers.{IsAnswer};
-ghost use Rattle.graphite_snap.specs.Description.{Description, meaning};
+ghost use Rattle.graphite_snap.specs.Description.{Description, meaning, seen_at};
+ghost use Rattle.graphite_snap.specs.Sound.{IsSound};
 
 use crate::SnapAnswer;
 use crate::map::map_all;
@@ -25,9 +26,9 @@ pub(crate) trait SnapProgram {
     fn program(&self) -> Self::Program
         ensures { Self.Program.count result ≡ 0 };
 
-    /// Which facts of the vertices it wants.
-    fn ask(&self) -> Ask
-        ensures { result ≡ (description self.now).ask };
+    /// Which facts of the vertices it wants. Refused only where memory is short.
+    fn ask(&self, alloc: Global) -> Result<Ask, NoMemory>
+        ensures { IfOk result (λ ask. ask ≡ (description self.now).ask) };
 
     /// Which way it goes along the edges.
     fn direction(&self) -> Direction
@@ -59,10 +60,11 @@ pub(crate) fn answer_of<D: SnapProgram>(
 ) -> Result<SnapAnswer, NoMemory>
     requires some { 1 ≤ steps }
     requires few { steps ≤ STEP_LIMIT }
-    ensures { IfOk result (λ answer. IsAnswer (meaning (D.description described.now)) graph.now steps
+    ensures answer { IfOk result (λ answer. IsAnswer (meaning (D.description described.now)) graph.now steps
         answer.values.items answer.made answer.calls) }
+    ensures sound { IfOk result (λ _. (t : ℕ) → IsSound (seen_at (D.description described.now) graph.now t)) }
 {
-    let ask = described.ask();
+    let ask = described.ask(alloc)?;
     let direction = described.direction();
     let start = |facts: Facts| -> <D::Program as Program>::State
         ensures { result ≡ (D.description described.entry.now).start facts }

@@ -6,6 +6,7 @@ ghost use Rattle.graphite_graph.specs.Facts.{facts_at};
 ghost use Rattle.graphite_loop.specs.Points.{IsPointRun};
 ghost use Rattle.graphite_api.specs.declared.TheConstants.{STEP_LIMIT};
 ghost use Rattle.graphite_snap.specs.Description.{graph_at};
+ghost use Rattle.graphite_snap.specs.Sound.{IsSound};
 
 use crate::start::point_start;
 use graphite_api::PointProgram;
@@ -32,16 +33,20 @@ pub(crate) fn run_program<P: PointProgram, F: Fn(Facts) -> P::State>(
     requires some { 1 ≤ steps }
     requires few { steps ≤ STEP_LIMIT }
     requires fresh { P.count program.old ≡ 0 }
-    ensures { IfOk result (λ ran. (start : Facts → P.State)
+    ensures run { IfOk result (λ ran. (start : Facts → P.State)
         → ((v t : ℕ) → ForSome (facts_at graph.now ask.now v t)
         (λ facts. (state : P.State) → F.post init.now facts state → state ≡ start facts))
         → IsPointRun P.State.cmp P.plan (graph_at graph.now ask.now direction start)
         (length graph.now.vertices) graph.now.horizon steps
         ran.states.items ran.made ran.settled ran.calls) }
+    ensures sound { IfOk result (λ _. (start : Facts → P.State) (t : ℕ)
+        → IsSound (graph_at graph.now ask.now direction start t)) }
 {
     let table = snapshot_arcs(alloc, graph, direction)?;
     let start = point_start(alloc, graph, ask, init)?;
     // nothing lives from the horizon on, so no superstep is looked for there
     let _horizon = graph.horizon();
+    // links come from vertices that are alive, and their costs are numbers of 32 bits
+    let _arcs = table.arcs();
     run_points(alloc, &table, start, program, steps)
 }

@@ -1,12 +1,15 @@
 //! The programs of snapshots on a graph.
 ghost use Rattle.std.specs.Prelude.{◌≡◌, ◌≤◌, IfOk};
 ghost use Rattle.graphite_api.specs.declared.TheConstants.{STEP_LIMIT};
-ghost use Rattle.graphite_snap.specs.Answers.{IsAsked, IsSnapAnswer};
+ghost use Rattle.graphite_snap.specs.Answers.{equation_of, AreSaid, IsAsked, IsSnapAnswer};
 
 use crate::SnapQuery;
-use crate::bfs::Search;
+use crate::bfs::bfs_of;
+use crate::components::components_of;
 use crate::degree::degrees;
-use crate::described::answer_of;
+use crate::distance::distances;
+use crate::max::greatest_values;
+use crate::rank::ranks_of;
 use graphite_graph::Graph;
 use graphite_part::Partition;
 use graphite_time::NoMemory;
@@ -36,11 +39,17 @@ pub fn run_snap(
     requires asked { IsAsked graph.now query.now }
     requires some { 1 ≤ steps }
     requires few { steps ≤ STEP_LIMIT }
-    ensures { IfOk result (λ answer. IsSnapAnswer graph.now query.now steps
+    ensures answer { IfOk result (λ answer. IsSnapAnswer graph.now query.now steps
         answer.values.items answer.made answer.calls) }
+    ensures equation { IfOk result (λ answer. AreSaid graph.now
+        (equation_of query.now graph.now steps) answer.values.items) }
 {
-    match *query {
+    match query {
         SnapQuery::Degree => degrees(alloc, graph),
-        SnapQuery::Bfs(source) => answer_of(alloc, graph, &Search { source }, steps),
+        SnapQuery::Bfs(source) => bfs_of(alloc, graph, *source, steps),
+        SnapQuery::Components => components_of(alloc, graph, steps),
+        SnapQuery::Max(key) => greatest_values(alloc, graph, key.as_slice(), steps),
+        SnapQuery::Distance(source) => distances(alloc, graph, *source, steps),
+        SnapQuery::Rank => ranks_of(alloc, graph, steps),
     }
 }

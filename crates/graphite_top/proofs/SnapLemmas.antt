@@ -1,20 +1,12 @@
 -- The lines of a report: those of a vertex are its maximal runs, and those of all make the report.
-use Rattle.std.proofs.Common.{◌≡◌, ℕ, ◌+◌, ◌<◌, ◌≤◌, false, ◌||◌, List, [], ◌∷◌, ◌++◌, length, map, drop, flat_map, Option, Some, None, option_map, refl, sym, ap, ◌∙◌, arith, eqb-true, get_or}
+use Rattle.std.proofs.Common.{◌≡◌, ℕ, ◌+◌, ◌<◌, ◌≤◌, List, [], ◌∷◌, ◌++◌, length, map, drop, flat_map, Option, Some, None, option_map, refl, sym, ap, ◌∙◌, arith, eqb-true, get_or}
 use Rattle.std.specs.Prelude.{slice_get, slice_index_or, codes}
 use mathlib.Core.Path.{fun_ext}
 use Rattle.std.proofs.lemmas.Bool.{eq-eqb}
 use Rattle.std.proofs.lemmas.Option.{slice_get_within, get_or_from_slice_get, same_Some}
 use Rattle.std.proofs.lemmas.List.{drop_all, drop_more, get_or_default}
-use Rattle.std.proofs.lemmas.List.Elements.{All-head, All-tail}
-use Rattle.graphite_time.specs.declared.interval.Interval.{Interval}
-use Rattle.graphite_time.specs.Interval.{end_of, holds}
-use Rattle.graphite_time.specs.Life.{is_held}
-use Rattle.graphite_time.proofs.LifeLemmas.{holds_after}
-use Rattle.graphite_text.specs.Graph.{PlainVertex, PlainGraph, is_alive, vertex_life, vertex_is_alive}
-use Rattle.graphite_text.specs.Spans.{as_span}
+use Rattle.graphite_text.specs.Graph.{PlainVertex, PlainGraph}
 use Rattle.graphite_graph.specs.Ends.{vertex_name}
-use Rattle.graphite_graph.specs.Life.{EndsBy}
-use Rattle.graphite_graph.proofs.LifeLemmas.{is_alive-as_span}
 use Rattle.graphite_part.specs.declared.piece.Piece.{Piece}
 use Rattle.graphite_part.specs.Pieces.{AreRuns, IsChain, value_at, run_of}
 use Rattle.graphite_part.specs.Runs.{TellsApart}

@@ -1,5 +1,5 @@
 -- The definitions on worked runs.
-use Rattle.std.proofs.Common.{◌≡◌, refl, [], ◌∷◌, None}
+use Rattle.std.proofs.Common.{◌≡◌, refl, ℕ, List, [], ◌∷◌, None}
 use Rattle.std.specs.Prelude.{codes, Some}
 use Rattle.std.specs.Fmt.{digits}
 use Rattle.graphite_part.specs.Runs.{runs_of}
@@ -33,6 +33,26 @@ searched : output_of (codes "bfs" ∷ codes "--source" ∷ codes "a" ∷ []) (So
 unfolding reading_of runs_of vertex_lines intervals_report digits is_quiet supersteps_made calls_in calls_made
 searched = refl
 
+-- the other programs on the same vertices, with a property and a cost
+abbrev loaded : List ℕ
+loaded = codes "graph 1 2\nv a 0 2\nv b 0 2\ne ab a b 0 1\npv a load 0 2 7\npe ab cost 0 1 3\nend\n"
+
+connected : output_of (codes "components" ∷ []) (Some loaded) ≡ Some (record { status = Done; text = codes "graphite components steps 3 calls 5\na 0 2 0\nb 0 1 0\nb 1 2 1\nend\n" })
+unfolding reading_of runs_of vertex_lines intervals_report digits is_quiet supersteps_made calls_in calls_made
+connected = refl
+
+heaviest : output_of (codes "max" ∷ codes "--key" ∷ codes "load" ∷ []) (Some loaded) ≡ Some (record { status = Done; text = codes "graphite max steps 3 calls 3\na 0 2 7\nb 0 1 7\nb 1 2 none\nend\n" })
+unfolding reading_of runs_of vertex_lines intervals_report digits is_quiet supersteps_made calls_in calls_made
+heaviest = refl
+
+cheapest : output_of (codes "distance" ∷ codes "--source" ∷ codes "a" ∷ []) (Some loaded) ≡ Some (record { status = Done; text = codes "graphite distance steps 3 calls 3\na 0 2 0\nb 0 1 3\nb 1 2 none\nend\n" })
+unfolding reading_of runs_of vertex_lines intervals_report digits is_quiet supersteps_made calls_in calls_made
+cheapest = refl
+
+ranked : output_of (codes "rank" ∷ codes "--steps" ∷ codes "2" ∷ []) (Some loaded) ≡ Some (record { status = Done; text = codes "graphite rank steps 2 calls 7\na 0 2 75000000\nb 0 1 500000000\nb 1 2 75000000\nend\n" })
+unfolding reading_of runs_of vertex_lines intervals_report digits is_quiet supersteps_made calls_in calls_made
+ranked = refl
+
 no_such_vertex : output_of (codes "bfs" ∷ codes "--source" ∷ codes "z" ∷ []) (Some (codes "graph 1 1\nv a 0 1\nend\n"))
     ≡ Some (record { status = QueryRefused; text = codes "refused query 1\n" })
 unfolding reading_of
@@ -42,11 +62,11 @@ no_such_vertex = refl
 plain_degree : query_of (codes "degree" ∷ []) ≡ Some (record { command = Degree; options = none_given })
 plain_degree = refl
 
-any_order : query_of (codes "bfs" ∷ codes "--steps" ∷ codes "4" ∷ codes "--source" ∷ codes "a" ∷ []) ≡ Some (record { command = Bfs; options = record { source = Some (codes "a"); steps = Some 4 } })
+any_order : query_of (codes "bfs" ∷ codes "--steps" ∷ codes "4" ∷ codes "--source" ∷ codes "a" ∷ []) ≡ Some (record { command = Bfs; options = record { source = Some (codes "a"); key = None; steps = Some 4 } })
 any_order = refl
 
 -- a value is taken as it is
-value_like_an_option : query_of (codes "bfs" ∷ codes "--source" ∷ codes "--steps" ∷ []) ≡ Some (record { command = Bfs; options = record { source = Some (codes "--steps"); steps = None } })
+value_like_an_option : query_of (codes "bfs" ∷ codes "--source" ∷ codes "--steps" ∷ []) ≡ Some (record { command = Bfs; options = record { source = Some (codes "--steps"); key = None; steps = None } })
 value_like_an_option = refl
 
 no_source : query_of (codes "bfs" ∷ codes "--steps" ∷ codes "4" ∷ []) ≡ None

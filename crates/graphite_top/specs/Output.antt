@@ -1,11 +1,10 @@
 -- What a call of the program writes, by cases on the words and the text.
-use Rattle.std.specs.Prelude.{ℕ, ◌+◌, ⊤, List, ◌++◌, codes, decimal, Option, Some, None, option_map, option_and_then, unwrap_or}
+use Rattle.std.specs.Prelude.{ℕ, ◌+◌, ⊤, List, [], ◌++◌, codes, decimal, Option, Some, None, option_map, option_and_then, unwrap_or}
 use Rattle.graphite_text.specs.Canonical.{canonical_text}
 use Rattle.graphite_text.specs.Graph.{PlainGraph, vertex_number}
 use Rattle.graphite_text.specs.Reading.{Reading, Accepted, Refused, reading_of}
 use Rattle.graphite_graph.specs.Ends.{lifespan_count}
 use Rattle.graphite_report.specs.Report.{Heading, intervals_report}
-use Rattle.graphite_snap.specs.declared.query.SnapQuery.{SnapQuery}
 use Rattle.graphite_snap.specs.declared.query.SnapQuery.TheVariants as snap
 use Rattle.graphite_snap.specs.Description.{Meaning}
 use Rattle.graphite_snap.specs.Answers.{meaning_of, IsAsked}
@@ -14,7 +13,7 @@ use Rattle.graphite_top.specs.declared.status.Status.TheVariants.{Done, TextRefu
 use Rattle.graphite_top.specs.declared.asked.Asked.{Asked}
 use Rattle.graphite_top.specs.declared.asked.Asked.TheVariants.{Text, Snap, NoVertex}
 use Rattle.graphite_top.specs.declared.words.Command.{Command}
-use Rattle.graphite_top.specs.declared.words.Command.TheVariants.{Degree, Bfs, Show}
+use Rattle.graphite_top.specs.declared.words.Command.TheVariants.{Degree, Bfs, Components, Max, Distance, Rank, Show}
 use Rattle.graphite_top.specs.Words.{PlainQuery, row_of, query_of}
 
 -- A status and the text that is written with it.
@@ -31,9 +30,10 @@ abbrev pub snap_report : PlainGraph → List ℕ → Meaning → ℕ → List �
 snap_report graph word program steps =
     intervals_report (snap_heading word (program.made graph steps) (program.calls graph steps)) graph (program.printed_at graph steps)
 
--- how many supersteps are allowed where the words do not say it: one more than the vertices have lifespans
-abbrev pub usual_steps : PlainGraph → ℕ
-usual_steps graph = lifespan_count graph + 1
+-- how many supersteps are allowed where the words do not say it: as many as are usual for the program, or else one more
+-- than the vertices have lifespans
+abbrev pub usual_steps : Option ℕ → PlainGraph → ℕ
+usual_steps usual graph = unwrap_or usual (lifespan_count graph + 1)
 
 -- a report, or the text of a graph
 abbrev pub report_answer : List ℕ → Answer
@@ -54,12 +54,18 @@ text_refusal line rule = record {
 abbrev pub query_refusal : Answer
 query_refusal = record { status = QueryRefused; text = codes "refused query 1\n" }
 
--- what a command asks of a graph, where the source that it was given has this number, or names no vertex
-abbrev pub asked_by : Command → Option ℕ → Asked
-asked_by Degree source = Snap snap.Degree
-asked_by Bfs None = NoVertex
-asked_by Bfs (Some source) = Snap (snap.Bfs source)
-asked_by Show source = Text
+-- what a command asks of a graph, where the source that it was given has this number, or names no vertex, and where it
+-- was given this key
+abbrev pub asked_by : Command → Option ℕ → (key : List ℕ) → Asked
+asked_by Degree source key = Snap snap.Degree
+asked_by Bfs None key = NoVertex
+asked_by Bfs (Some source) key = Snap (snap.Bfs source)
+asked_by Components source key = Snap snap.Components
+asked_by Max source key = Snap (snap.Max key)
+asked_by Distance None key = NoVertex
+asked_by Distance (Some source) key = Snap (snap.Distance source)
+asked_by Rank source key = Snap snap.Rank
+asked_by Show source key = Text
 
 -- a vertex that a program starts from is one of the graph
 abbrev pub IsAskedOf : PlainGraph → Asked → Type 0
@@ -70,6 +76,10 @@ IsAskedOf graph _ = ⊤
 abbrev pub source_of : PlainQuery → PlainGraph → Option ℕ
 source_of query graph = option_and_then (vertex_number graph) query.options.source
 
+-- the key that a query names; a query without one has the empty key, which no property has
+abbrev pub key_of : PlainQuery → List ℕ
+key_of query = unwrap_or query.options.key []
+
 -- the answer to what is asked of a graph, by a program with this word that is allowed so many supersteps
 abbrev pub asked_answer : PlainGraph → (word : List ℕ) → (steps : ℕ) → Asked → Answer
 asked_answer graph word steps Text = report_answer (canonical_text graph)
@@ -79,8 +89,8 @@ asked_answer graph word steps NoVertex = query_refusal
 -- the answer to a query for a graph
 abbrev pub graph_answer : PlainQuery → PlainGraph → Answer
 graph_answer query graph =
-    asked_answer graph (row_of query.command).word (unwrap_or query.options.steps (usual_steps graph))
-    (asked_by query.command (source_of query graph))
+    asked_answer graph (row_of query.command).word (unwrap_or query.options.steps (usual_steps (row_of query.command).usual_steps graph))
+    (asked_by query.command (source_of query graph) (key_of query))
 
 -- the answer to what the reading of a text gives
 abbrev pub reading_answer : PlainQuery → Reading → Answer

@@ -14,7 +14,7 @@ use crate::Status;
 use crate::asked::{Asked, asked_of};
 use crate::snap::write_snap;
 use crate::steps::Steps;
-use crate::words::{Query, query_of, row_of};
+use crate::words::{Query, Row, query_of, row_of};
 use graphite_base::{ReadText, Sink, Source, TEXT_LIMIT, push_number, read_text, write_all};
 use graphite_graph::{Graph, LoadFault, load};
 use graphite_text::LENGTH_RULE;
@@ -86,23 +86,27 @@ fn report<K: Sink>(alloc: Global, query: Query<'_>, graph: &Graph<'_>, sink: &mu
     ensures query_refused { result ≡ Status.QueryRefused → NamesSource (Some (plain_query query.entry)) }
     ensures later { K.faults sink.old ≤ K.faults sink.new }
 {
-    match asked_of(query, graph) {
-        Asked::Text => write_shown(alloc, graph, sink),
-        Asked::Snap(program) => {
-            let word = row_of(query.command).word;
-            let steps = query.options.steps.unwrap_or(usual_steps(graph));
-            write_snap(alloc, graph, word, &program, steps, sink)
+    match asked_of(alloc, query, graph) {
+        Ok(Asked::Text) => write_shown(alloc, graph, sink),
+        Ok(Asked::Snap(program)) => {
+            let row = row_of(query.command);
+            let steps = query.options.steps.unwrap_or(usual_steps(row, graph));
+            write_snap(alloc, graph, row.word, &program, steps, sink)
         }
-        Asked::NoVertex => write(sink, b"refused query 1\n", Status::QueryRefused),
+        Ok(Asked::NoVertex) => write(sink, b"refused query 1\n", Status::QueryRefused),
+        Err(_) => Status::NoMemory,
     }
 }
 
-/// How many supersteps are allowed where the words do not say it: one more than the vertices have
-/// lifespans.
-fn usual_steps(graph: &Graph<'_>) -> Steps
-    ensures { result.number ≡ usual_steps graph.now }
+/// How many supersteps a program of this row is allowed where the words do not say it: as many as are
+/// usual for it, or else one more than the vertices have lifespans.
+fn usual_steps(row: Row, graph: &Graph<'_>) -> Steps
+    ensures { result.number ≡ usual_steps (number_given row.usual_steps) graph.now }
 {
-    Steps::new(graph.lifespans() + 1)
+    match row.usual_steps {
+        Some(steps) => steps,
+        None => Steps::new(graph.lifespans() + 1),
+    }
 }
 
 /// Writes the canonical text of a graph.

@@ -126,6 +126,48 @@ fn searches_along_two_edges(rt: HostRuntime) -> Result<(), Fail> {
     Ok(())
 }
 
+/// Components, the greatest value of a property, the least cost and rank.
+#[test]
+fn other_programs_of_snapshots(rt: HostRuntime) -> Result<(), Fail> {
+    let cases: [(&[&str], &[u8], &[u8]); 6] = [
+        (
+            &["components"],
+            b"graph 1 1\nend\n",
+            b"graphite components steps 1 calls 0\nend\n",
+        ),
+        (
+            &["rank", "--steps", "3"],
+            b"graph 1 4\nv a 0 4\nv b 0 4\nv c 0 2\ne ab a b 0 4\ne ac a c 0 2\ne ba b a 0 4\nend\n",
+            b"graphite rank steps 3 calls 15\na 0 2 212916666\na 2 4 500000000\nb 0 2 191666666\nb 2 4 500000000\nc 0 2 191666666\nend\n",
+        ),
+        (
+            &["components"],
+            STOPS,
+            b"graphite components steps 4 calls 13\na 0 10 0\nb 0 5 0\nb 5 10 1\nc 2 3 2\nc 3 5 0\nc 5 7 1\nc 7 8 2\nend\n",
+        ),
+        (
+            &["max", "--key", "load"],
+            b"graph 1 10\nv a 0 10\nv b 0 10\nv c 2 8\ne ab a b 0 5\ne bc b c 3 7\npv a load 0 4 7\npv b load 2 6 3\nend\n",
+            b"graphite max steps 4 calls 10\na 0 4 7\na 4 10 none\nb 0 4 7\nb 4 6 3\nb 6 10 none\nc 2 3 none\nc 3 4 7\nc 4 6 3\nc 6 8 none\nend\n",
+        ),
+        (
+            &["distance", "--source", "a"],
+            b"graph 1 10\nv a 0 10\nv b 0 10\ne x a b 0 10\npe x cost 2 6 5\nend\n",
+            b"graphite distance steps 3 calls 5\na 0 10 0\nb 0 2 1\nb 2 6 5\nb 6 10 1\nend\n",
+        ),
+        // a key that no line has is no refusal
+        (
+            &["max", "--key", "height"],
+            STOPS,
+            b"graphite max steps 1 calls 3\na 0 10 none\nb 0 10 none\nc 2 8 none\nend\n",
+        ),
+    ];
+    for (words, text, written) in cases {
+        expect_run(&rt, rt.alloc(), words, text, Status::Done, written)?;
+    }
+    Ok(())
+}
+
 #[test]
 fn texts_that_are_refused(rt: HostRuntime) -> Result<(), Fail> {
     let cases: [(&[u8], &[u8]); 7] = [
@@ -206,9 +248,25 @@ fn instants_near_the_last(rt: HostRuntime) -> Result<(), Fail> {
         b"graphite degree steps 0 calls 0\ncentral 0 1700000000000 0\ncentral 1700000000000 1700000000001 1\ncentral 1700000000001 17592186044416 0\nmuseum 0 1700000240000 0\nmuseum 1700000240000 1700000240001 1\nmuseum 1700000240001 1700000420000 0\nmuseum 1700000420000 1700000420001 1\nmuseum 1700000420001 17592186044416 0\nharbour 0 17592186044416 0\nend\n";
     let numbers: &[u8] =
         b"graphite bfs steps 3 calls 4\ncentral 0 17592186044416 0\nmuseum 0 1700000000000 none\nmuseum 1700000000000 1700000000001 1\nmuseum 1700000000001 17592186044416 none\nharbour 0 17592186044416 none\nend\n";
-    let cases: [(&[&str], &[u8]); 2] = [
+    let cases: [(&[&str], &[u8]); 6] = [
         (&["degree"], degrees),
         (&["bfs", "--source", "central"], numbers),
+        (
+            &["distance", "--source", "central"],
+            b"graphite distance steps 3 calls 4\ncentral 0 17592186044416 0\nmuseum 0 1700000000000 none\nmuseum 1700000000000 1700000000001 1\nmuseum 1700000000001 17592186044416 none\nharbour 0 17592186044416 none\nend\n",
+        ),
+        (
+            &["max", "--key", "load"],
+            b"graphite max steps 1 calls 3\ncentral 0 17592186044416 none\nmuseum 0 17592186044416 none\nharbour 0 17592186044416 none\nend\n",
+        ),
+        (
+            &["components"],
+            b"graphite components steps 3 calls 12\ncentral 0 17592186044416 0\nmuseum 0 1700000000000 1\nmuseum 1700000000000 1700000000001 0\nmuseum 1700000000001 17592186044416 1\nharbour 0 1700000240000 2\nharbour 1700000240000 1700000240001 1\nharbour 1700000240001 1700000420000 2\nharbour 1700000420000 1700000420001 1\nharbour 1700000420001 17592186044416 2\nend\n",
+        ),
+        (
+            &["rank", "--steps", "2"],
+            b"graphite rank steps 2 calls 24\ncentral 0 17592186044416 50000000\nmuseum 0 1700000000000 50000000\nmuseum 1700000000000 1700000000001 333333333\nmuseum 1700000000001 17592186044416 50000000\nharbour 0 1700000240000 50000000\nharbour 1700000240000 1700000240001 333333333\nharbour 1700000240001 1700000420000 50000000\nharbour 1700000420000 1700000420001 333333333\nharbour 1700000420001 17592186044416 50000000\nend\n",
+        ),
     ];
     for (words, written) in cases {
         expect_run(&rt, rt.alloc(), words, text, Status::Done, written)?;
@@ -219,7 +277,7 @@ fn instants_near_the_last(rt: HostRuntime) -> Result<(), Fail> {
 #[test]
 fn words_that_are_refused(rt: HostRuntime) -> Result<(), Fail> {
     let alloc = rt.alloc();
-    let lists: [&[&str]; 15] = [
+    let lists: [&[&str]; 22] = [
         &[],
         &["frob"],
         &["degree", "extra"],
@@ -235,6 +293,13 @@ fn words_that_are_refused(rt: HostRuntime) -> Result<(), Fail> {
         &["bfs", "--source", "a", "--steps", "01"],
         &["bfs", "--source", "a", "--steps", "2097153"],
         &["--source", "a", "bfs"],
+        &["components", "--source", "a"],
+        &["max"],
+        &["max", "--key", "load", "--key", "load"],
+        &["max", "--key", "load", "--source", "a"],
+        &["distance", "--key", "load"],
+        &["rank", "--steps", "-1"],
+        &["rank", "--key", "load"],
     ];
     for list in lists {
         let words = words_of(alloc, list)?;

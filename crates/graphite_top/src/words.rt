@@ -1,7 +1,7 @@
 //! What the words ask for: a program of the table, and the options that it takes.
 ghost use Rattle.std.specs.Prelude.{◌≡◌, map, option_map, string_bytes};
 ghost use Rattle.graphite_top.specs.Query.{number_given, plain_options, plain_query, plain_row};
-ghost use Rattle.graphite_top.specs.Words.{command_of, none_given, query_of, query_with, row_of, steps_in, takes, with_option, with_options, with_source, with_steps};
+ghost use Rattle.graphite_top.specs.Words.{command_of, none_given, query_of, query_with, row_of, steps_in, takes, with_key, with_option, with_options, with_source, with_steps};
 
 use crate::steps::Steps;
 use graphite_api::STEP_LIMIT;
@@ -14,6 +14,14 @@ pub enum Command {
     Degree,
     /// Breadth-first search from a vertex.
     Bfs,
+    /// The least number of a vertex that is connected with each vertex.
+    Components,
+    /// The greatest value of a property over the vertices from which edges lead to each vertex.
+    Max,
+    /// The least cost of a walk from a vertex.
+    Distance,
+    /// The rank of each vertex, by the ranks of those from which edges lead to it.
+    Rank,
     /// The canonical text of the graph.
     Show,
 }
@@ -25,8 +33,13 @@ pub struct Row {
     pub word: &'static [u8],
     /// Whether it starts from a vertex, whose name has to be given. No other program may be given one.
     pub wants_source: bool,
+    /// Whether it reads a property, whose key has to be given. No other program may be given one.
+    pub wants_key: bool,
     /// Whether it may be given the number of supersteps allowed.
     pub takes_steps: bool,
+    /// How many supersteps are allowed where the words do not say it. `None` stands for one more than the
+    /// vertices have lifespans.
+    pub usual_steps: Option<Steps>,
 }
 
 /// What the words ask for: a program with the options that it takes.
@@ -41,6 +54,8 @@ pub struct Query<'w> {
 pub struct Options<'w> {
     /// The name of the vertex to start from.
     pub source: Option<&'w [u8]>,
+    /// The key of the property to read.
+    pub key: Option<&'w [u8]>,
     /// The number of supersteps allowed.
     pub steps: Option<Steps>,
 }
@@ -53,17 +68,51 @@ pub fn row_of(command: Command) -> Row
         Command::Degree => Row {
             word: b"degree",
             wants_source: false,
+            wants_key: false,
             takes_steps: false,
+            usual_steps: None,
         },
         Command::Bfs => Row {
             word: b"bfs",
             wants_source: true,
+            wants_key: false,
             takes_steps: true,
+            usual_steps: None,
+        },
+        Command::Components => Row {
+            word: b"components",
+            wants_source: false,
+            wants_key: false,
+            takes_steps: true,
+            usual_steps: None,
+        },
+        Command::Max => Row {
+            word: b"max",
+            wants_source: false,
+            wants_key: true,
+            takes_steps: true,
+            usual_steps: None,
+        },
+        Command::Distance => Row {
+            word: b"distance",
+            wants_source: true,
+            wants_key: false,
+            takes_steps: true,
+            usual_steps: None,
+        },
+        Command::Rank => Row {
+            word: b"rank",
+            wants_source: false,
+            wants_key: false,
+            takes_steps: true,
+            usual_steps: Some(Steps::new(30)),
         },
         Command::Show => Row {
             word: b"show",
             wants_source: false,
+            wants_key: false,
             takes_steps: false,
+            usual_steps: None,
         },
     }
 }
@@ -90,14 +139,26 @@ fn command_of(word: &[u8]) -> Option<Command>
     if row_of(Command::Bfs).word == word {
         return Some(Command::Bfs);
     }
+    if row_of(Command::Components).word == word {
+        return Some(Command::Components);
+    }
+    if row_of(Command::Max).word == word {
+        return Some(Command::Max);
+    }
+    if row_of(Command::Distance).word == word {
+        return Some(Command::Distance);
+    }
+    if row_of(Command::Rank).word == word {
+        return Some(Command::Rank);
+    }
     if row_of(Command::Show).word == word {
         return Some(Command::Show);
     }
     None
 }
 
-/// A program with the options given. `None` where it does not take them, or wants a source that is
-/// not given.
+/// A program with the options given. `None` where it does not take them, or wants a source or a key
+/// that is not given.
 fn query_with(command: Command, options: Options<'_>) -> Option<Query<'_>>
     ensures { option_map plain_query result ≡ query_with command (plain_options options.entry) }
 {
@@ -107,13 +168,14 @@ fn query_with(command: Command, options: Options<'_>) -> Option<Query<'_>>
     Some(Query { command, options })
 }
 
-/// Whether the source is given exactly where a program of this row wants one, and a number of
+/// Whether a source and a key are given exactly where a program of this row wants one, and a number of
 /// supersteps only where it takes one.
 fn takes(row: Row, options: Options<'_>) -> bool
     ensures { result ≡ takes (plain_row row) (plain_options options.entry) }
 {
     let has_source = options.source.is_some() == row.wants_source;
-    has_source && (options.steps.is_none() || row.takes_steps)
+    let has_key = options.key.is_some() == row.wants_key;
+    has_source && has_key && (options.steps.is_none() || row.takes_steps)
 }
 
 /// The options that the words give, in pairs of an option and its value.
@@ -122,6 +184,7 @@ fn options_of(words: &[String]) -> Option<Options<'_>>
 {
     let mut options = Options {
         source: None,
+        key: None,
         steps: None,
     };
     let mut rest = words;
@@ -141,6 +204,9 @@ fn with_option<'w>(option: &str, value: &'w str, options: Options<'w>) -> Option
     if option == "--source" {
         return with_source(value.as_bytes(), options);
     }
+    if option == "--key" {
+        return with_key(value.as_bytes(), options);
+    }
     if option == "--steps" {
         return with_steps(value.as_bytes(), options);
     }
@@ -155,6 +221,18 @@ fn with_source<'w>(value: &'w [u8], options: Options<'w>) -> Option<Options<'w>>
     }
     Some(Options {
         source: Some(value),
+        ..options
+    })
+}
+
+fn with_key<'w>(value: &'w [u8], options: Options<'w>) -> Option<Options<'w>>
+    ensures { option_map plain_options result ≡ with_key value.now (plain_options options.entry) }
+{
+    if options.key.is_some() {
+        return None;
+    }
+    Some(Options {
+        key: Some(value),
         ..options
     })
 }
