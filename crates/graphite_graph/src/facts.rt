@@ -11,15 +11,20 @@ ghost use Rattle.graphite_graph.specs.Covered.{facts_with, asked_degree, covered
 
 use crate::Graph;
 use crate::departure::{Departure, sorted_departures, take_covers};
+use graphite_base::Bytes;
 use graphite_part::{Partition, Plain};
 use graphite_time::{Interval, Life, NoMemory};
 use std::alloc::Global;
 
 /// Which facts of the vertices are wanted.
-#[derive(Clone, Copy, Debug, PartialEq, Eq)]
+#[derive(Drop, PartialEq, Eq)]
 pub struct Ask {
     /// The number of edges that are alive and lead out of the vertex.
     pub outdegree: bool,
+    /// The number of vertices that are alive.
+    pub n: bool,
+    /// The value of the vertex's property with this key.
+    pub key: Option<Bytes>,
 }
 
 /// What holds of a vertex at an instant of its life.
@@ -29,9 +34,10 @@ pub struct Facts {
     pub vertex: u32,
     /// How many edges that are alive lead out of it, at most [`graphite_text::EDGE_LIMIT`]; 0 where that is not asked.
     pub outdegree: u32,
-    /// How many vertices are alive; 0, since no program asks for it yet.
+    /// How many vertices are alive at the instant, at most [`graphite_text::VERTEX_LIMIT`]; 0 where that is not asked.
     pub n: u32,
-    /// The value of a property; `None`, since no program asks for one yet.
+    /// The value that the vertex has under the asked key at the instant; `None` where it has none or no
+    /// key is asked.
     pub prop: Option<u32>,
 }
 

@@ -89,12 +89,21 @@ fn assert_facts(rt: &impl Abort, facts: &[Partition<Facts>]) {
 
 /// The facts where out-degrees are asked.
 fn degrees_of(graph: &Graph<'_>) -> Result<Vec<Partition<Facts>>, NoMemory> {
-    graph.facts(&Ask { outdegree: true })
+    graph.facts(&Ask {
+        outdegree: true,
+        n: false,
+        key: None,
+    })
 }
 
 /// The number of each vertex over its life.
 fn numbers_of(graph: &Graph<'_>) -> Result<Vec<Partition<u32>>, NoMemory> {
-    graph.map_facts(&Ask { outdegree: false }, &|facts: Facts| { facts.vertex })
+    let none = Ask {
+        outdegree: false,
+        n: false,
+        key: None,
+    };
+    graph.map_facts(&none, &|facts: Facts| { facts.vertex })
 }
 
 fn assert_numbers(rt: &impl Abort, numbers: &[Partition<u32>]) {
