@@ -16,7 +16,7 @@ abbrev pub leaves : ℕ → ℕ → PlainEdge → Bool
 leaves v t edge = (eqb edge.from v) && is_alive edge.life t
 
 -- one more element of a list in a sum
-sum_by_next : {X : Type 0} (f : X → ℕ) (xs : List X) (i : ℕ) (x : X) → slice_get xs i ≡ Some x → sum_by f (take (i + 1) xs) ≡ sum_by f (take i xs) + f x
+pub sum_by_next : {X : Type 0} (f : X → ℕ) (xs : List X) (i : ℕ) (x : X) → slice_get xs i ≡ Some x → sum_by f (take (i + 1) xs) ≡ sum_by f (take i xs) + f x
 sum_by_next f xs i x at =
     let within = slice_get_within xs i x at in
     let here = get_or_from_slice_get xs i x x at in

@@ -1,5 +1,6 @@
--- What is made of the facts of a vertex, from the counts of its covers.
+-- What is made of the facts of a vertex, from the counts of its covers and from what stands beside them.
 use Rattle.std.proofs.Common.{◌≡◌, ℕ, ◌+◌, ◌<◌, ◌||◌, Bool, true, false, cond, List, [], map, Option, Some, None, option_map, refl, sym, ap, ◌∙◌, subst, arith, length, length-append, ◌++◌, ◌∷◌, ◌≤◌, slice_index_or, ⊎_elim}
+use Rattle.std.specs.Prelude.{unwrap_or}
 use Rattle.std.specs.Option.{ForSome}
 use Rattle.std.proofs.Math.Seq.{get_or-append_seam}
 use Rattle.std.proofs.lemmas.Bool.{cases_lt}
@@ -17,38 +18,43 @@ use Rattle.graphite_text.specs.Spans.{as_span}
 use Rattle.graphite_graph.specs.declared.facts.Ask.{Ask}
 use Rattle.graphite_graph.specs.declared.facts.Facts.{Facts}
 use Rattle.graphite_graph.specs.Facts.{facts_at, AreMadeOf}
-use Rattle.graphite_graph.specs.Covered.{facts_with, asked_degree, covered_facts}
+use Rattle.graphite_graph.specs.Covered.{facts_with, asked_degree, asked_number, asked_property, counted_on, covered_facts}
+use Rattle.graphite_props.specs.Beside.{beside}
 use Rattle.graphite_graph.proofs.CoverLemmas.{is_alive-spans}
 
 -- ---- the facts of one vertex
 
--- where the covers count the edges that are asked for, the covered facts are the facts of the vertex
-pub covered_facts-asked : (graph : PlainGraph) (ask : Ask) (v : ℕ) (life covers : List Interval) → map as_span life ≡ vertex_life graph v → ((t : ℕ) → covers_at covers t ≡ asked_degree graph ask v t) → (t : ℕ) → covered_facts v life covers t ≡ facts_at graph ask v t
-covered_facts-asked graph ask v life covers same counts t =
-    let alive : is_held life t ≡ vertex_is_alive graph v t = sym (is_alive-spans life t) ∙ ap (λ l. is_alive l t) same in
-    ap (λ n. cond (is_held life t) (Some (facts_with v n)) None) (counts t)
-    ∙ ap (λ b. cond b (Some (facts_with v (asked_degree graph ask v t))) None) alive
+-- where the covers count the edges that are asked for, and the numbers and the property are those that are asked for,
+-- the covered facts are the facts of the vertex
+pub covered_facts-asked : (graph : PlainGraph) (ask : Ask) (v : ℕ) (life covers : List Interval) (numbers property : List (Piece ℕ)) → map as_span life ≡ vertex_life graph v → ((t : ℕ) → covers_at covers t ≡ asked_degree graph ask v t)
+    → ((t : ℕ) → unwrap_or (value_at numbers t) 0 ≡ asked_number graph ask t) → ((t : ℕ) → value_at property t ≡ asked_property graph ask v t) → (t : ℕ) → covered_facts v life covers numbers property t ≡ facts_at graph ask v t
+covered_facts-asked graph ask v life covers numbers property same counts alive valued t =
+    let here : is_held life t ≡ vertex_is_alive graph v t = sym (is_alive-spans life t) ∙ ap (λ l. is_alive l t) same in
+    ap (λ k. cond (is_held life t) (Some (facts_with v k (unwrap_or (value_at numbers t) 0) (value_at property t))) None) (counts t)
+    ∙ ap (λ n. cond (is_held life t) (Some (facts_with v (asked_degree graph ask v t) n (value_at property t))) None) (alive t)
+    ∙ ap (λ o. cond (is_held life t) (Some (facts_with v (asked_degree graph ask v t) (asked_number graph ask t) o)) None) (valued t)
+    ∙ ap (λ b. cond b (Some (facts_with v (asked_degree graph ask v t) (asked_number graph ask t) (asked_property graph ask v t))) None) here
 
 no_covers : (covers : List Interval) (t : ℕ) → length covers ≡ 0 → covers_at covers t ≡ 0
 no_covers covers t none = ap (λ overs. covers_at overs t) (nil_from_length covers none)
 
 -- some instant of a life has the facts of a vertex without covers
-pub without_covers : (P : Facts → Type 0) (v : ℕ) (life covers : List Interval) (facts : Facts) → IsLife life → length covers ≡ 0 → facts ≡ facts_with v 0 → ((t : ℕ) → ForSome (covered_facts v life covers t) P) → P facts
+pub without_covers : (P : Facts → Type 0) (v : ℕ) (life covers : List Interval) (facts : Facts) → IsLife life → length covers ≡ 0 → facts ≡ facts_with v 0 0 None → ((t : ℕ) → ForSome (covered_facts v life covers [] [] t) P) → P facts
 without_covers P v [] covers facts lives none is all = absurd lives
 without_covers P v (span ∷ spans) covers facts lives none is all =
     all (start_of span) facts
-    (ap (λ b. cond (b || is_held spans (start_of span)) (Some (facts_with v (covers_at covers (start_of span)))) None) (holds_start span)
-    ∙ ap (λ n. Some (facts_with v n)) (no_covers covers (start_of span) none) ∙ ap Some (sym is))
+    (ap (λ b. cond (b || is_held spans (start_of span)) (Some (facts_with v (covers_at covers (start_of span)) 0 None)) None) (holds_start span)
+    ∙ ap (λ k. Some (facts_with v k 0 None)) (no_covers covers (start_of span) none) ∙ ap Some (sym is))
 
 -- ---- what is made of the facts of one vertex
 
 -- one answer on a life is made of the facts of a vertex without covers
-pub AreMadeOf-life : {T : Type 0} (R : Facts → T → Type 0) (v : ℕ) (life covers : List Interval) (facts : Facts) (y : T) (made : List (Piece T)) → length covers ≡ 0 → facts ≡ facts_with v 0 → R facts y → AreRuns (value_on life y) made → AreMadeOf R (covered_facts v life covers) made
+pub AreMadeOf-life : {T : Type 0} (R : Facts → T → Type 0) (v : ℕ) (life covers : List Interval) (facts : Facts) (y : T) (made : List (Piece T)) → length covers ≡ 0 → facts ≡ facts_with v 0 0 None → R facts y → AreRuns (value_on life y) made → AreMadeOf R (covered_facts v life covers [] []) made
 AreMadeOf-life R v life covers facts y made none is answer runs = record {
   in_order = runs.in_order;
   values = λ t.
-      subst (IsAnswer R (covered_facts v life covers t)) (sym (runs.values t))
-      (subst (λ n. IsAnswer R (cond (is_held life t) (Some (facts_with v n)) None) (cond (is_held life t) (Some y) None)) (sym (no_covers covers t none))
+      subst (IsAnswer R (covered_facts v life covers [] [] t)) (sym (runs.values t))
+      (subst (λ k. IsAnswer R (cond (is_held life t) (Some (facts_with v k 0 None)) None) (cond (is_held life t) (Some y) None)) (sym (no_covers covers t none))
       (subst (λ x. IsAnswer R (cond (is_held life t) (Some x) None) (cond (is_held life t) (Some y) None)) is (one (is_held life t))));
 }
   where
@@ -60,32 +66,65 @@ zero_counted : (b : Bool) (k : ℕ) → option_map (λ n. n + k) (cond b (Some 0
 zero_counted true k = let number : 0 + k ≡ k = omega arith in ap Some number
 zero_counted false k = refl
 
-counts_here : (v : ℕ) (life covers : List Interval) (zeros counts : List (Piece ℕ)) → AreRuns (value_on life 0) zeros → AreRuns (counted (value_at zeros) covers) counts → (t : ℕ) → value_at counts t ≡ cond (is_held life t) (Some (covers_at covers t)) None
-counts_here v life covers zeros counts start sum t =
-    sum.values t ∙ ap (option_map (λ n. n + covers_at covers t)) (start.values t) ∙ zero_counted (is_held life t) (covers_at covers t)
-
--- what may be asked of the covered facts may be asked of the facts with each count
-pub counts_asked : (P : Facts → Type 0) (v : ℕ) (life covers : List Interval) (zeros counts : List (Piece ℕ)) → AreRuns (value_on life 0) zeros → AreRuns (counted (value_at zeros) covers) counts
-    → ((t : ℕ) → ForSome (covered_facts v life covers t) P) → (t n : ℕ) → value_at counts t ≡ Some n → P (facts_with v n)
-counts_asked P v life covers zeros counts start sum all t n is =
-    all t (facts_with v n) (with_count (is_held life t) (covers_at covers t) (sym (counts_here v life covers zeros counts start sum t) ∙ is))
-  where
-    with_count : (b : Bool) (k : ℕ) → cond b (Some k) None ≡ Some n → cond b (Some (facts_with v k)) None ≡ Some (facts_with v n)
-    with_count true k same = let number : k ≡ n = cc in ap (λ m. Some (facts_with v m)) number
-    with_count false k same = cc
-
-answer_with : {Y : Type 0} (R : Facts → Y → Type 0) (Q : ℕ → Y → Type 0) (v : ℕ) → ((n : ℕ) (y : Y) → Q n y → R (facts_with v n) y) → (b : Bool) (k : ℕ) (o : Option Y) → IsAnswer Q (cond b (Some k) None) o → IsAnswer R (cond b (Some (facts_with v k)) None) o
-answer_with R Q v through true k None is = absurd is
-answer_with R Q v through true k (Some y) is = through k y is
-answer_with R Q v through false k o is = is
-
--- answers to counts of the covers, where they are answers to the facts with those counts
-pub AreMadeOf-counts : {Y : Type 0} (R : Facts → Y → Type 0) (Q : ℕ → Y → Type 0) (v : ℕ) (life covers : List Interval) (zeros counts : List (Piece ℕ)) (made : List (Piece Y)) → ((n : ℕ) (y : Y) → Q n y → R (facts_with v n) y)
-    → AreRuns (value_on life 0) zeros → AreRuns (counted (value_at zeros) covers) counts → AreAnswers Q counts made → AreMadeOf R (covered_facts v life covers) made
-AreMadeOf-counts R Q v life covers zeros counts made through start sum answers = record {
-  in_order = answers.in_order;
-  values = λ t. answer_with R Q v through (is_held life t) (covers_at covers t) (value_at made t) (subst (λ o. IsAnswer Q o (value_at made t)) (counts_here v life covers zeros counts start sum t) (answers.values t));
+-- counts that begin with 0 on a life
+pub counted-life : (life covers : List Interval) (zeros counts : List (Piece ℕ)) → AreRuns (value_on life 0) zeros → AreRuns (counted (value_at zeros) covers) counts → AreRuns (counted_on life covers) counts
+counted-life life covers zeros counts start sum = record {
+  in_order = sum.in_order;
+  values = λ t. sum.values t ∙ ap (option_map (λ n. n + covers_at covers t)) (start.values t) ∙ zero_counted (is_held life t) (covers_at covers t);
 }
+
+-- the facts with each count
+pub facts-counted : (v : ℕ) (life covers : List Interval) (counts : List (Piece ℕ)) → AreRuns (counted_on life covers) counts → (t : ℕ) → option_map (λ k. facts_with v k 0 None) (value_at counts t) ≡ covered_facts v life covers [] [] t
+facts-counted v life covers counts runs t = ap (option_map (λ k. facts_with v k 0 None)) (runs.values t) ∙ by (is_held life t)
+  where
+    by : (b : Bool) → option_map (λ k. facts_with v k 0 None) (cond b (Some (covers_at covers t)) None) ≡ cond b (Some (facts_with v (covers_at covers t) 0 None)) None
+    by true = refl
+    by false = refl
+
+-- the facts with each count and the number beside it
+abbrev pub facts_of_pair : ℕ → ℕ × Option ℕ → Facts
+facts_of_pair v pair = facts_with v pair.0 (unwrap_or pair.1 0) None
+
+pub facts-numbered : (v : ℕ) (life covers : List Interval) (counts numbers : List (Piece ℕ)) (both : List (Piece (ℕ × Option ℕ))) → AreRuns (counted_on life covers) counts → AreRuns (beside (value_at counts) (value_at numbers)) both
+    → (t : ℕ) → option_map (facts_of_pair v) (value_at both t) ≡ covered_facts v life covers numbers [] t
+facts-numbered v life covers counts numbers both runs pairs t =
+    ap (option_map (facts_of_pair v)) (pairs.values t ∙ ap (option_map (λ k. (k, value_at numbers t))) (runs.values t)) ∙ by (is_held life t)
+  where
+    by : (b : Bool) → option_map (facts_of_pair v) (option_map (λ k. (k, value_at numbers t)) (cond b (Some (covers_at covers t)) None)) ≡ cond b (Some (facts_with v (covers_at covers t) (unwrap_or (value_at numbers t) 0) None)) None
+    by true = refl
+    by false = refl
+
+-- the facts with each count and the number and the value beside it
+abbrev pub facts_of_row : ℕ → (ℕ × Option ℕ) × Option ℕ → Facts
+facts_of_row v row = facts_with v row.0.0 (unwrap_or row.0.1 0) row.1
+
+pub facts-valued : (v : ℕ) (life covers : List Interval) (counts numbers property : List (Piece ℕ)) (both : List (Piece (ℕ × Option ℕ))) (all : List (Piece ((ℕ × Option ℕ) × Option ℕ)))
+    → AreRuns (counted_on life covers) counts → AreRuns (beside (value_at counts) (value_at numbers)) both → AreRuns (beside (value_at both) (value_at property)) all
+    → (t : ℕ) → option_map (facts_of_row v) (value_at all t) ≡ covered_facts v life covers numbers property t
+facts-valued v life covers counts numbers property both all runs pairs rows t =
+    ap (option_map (facts_of_row v)) (rows.values t ∙ ap (option_map (λ pair. (pair, value_at property t))) (pairs.values t ∙ ap (option_map (λ k. (k, value_at numbers t))) (runs.values t))) ∙ by (is_held life t)
+  where
+    by : (b : Bool) → option_map (facts_of_row v) (option_map (λ pair. (pair, value_at property t)) (option_map (λ k. (k, value_at numbers t)) (cond b (Some (covers_at covers t)) None))) ≡ cond b (Some (facts_with v (covers_at covers t) (unwrap_or (value_at numbers t) 0) (value_at property t))) None
+    by true = refl
+    by false = refl
+
+-- what may be asked of all facts may be asked of those that each value has
+pub mapped-asked : {X : Type 0} (P : Facts → Type 0) (facts : X → Facts) (g : ℕ → Option Facts) (pieces : List (Piece X)) → ((t : ℕ) → option_map facts (value_at pieces t) ≡ g t)
+    → ((t : ℕ) → ForSome (g t) P) → (t : ℕ) (x : X) → value_at pieces t ≡ Some x → P (facts x)
+mapped-asked P facts g pieces same all t x is = all t (facts x) (sym (same t) ∙ ap (option_map facts) is)
+
+-- answers to values, where they are answers to the facts that the values have
+pub AreMadeOf-mapped : {X Y : Type 0} (R : Facts → Y → Type 0) (Q : X → Y → Type 0) (facts : X → Facts) (g : ℕ → Option Facts) (pieces : List (Piece X)) (made : List (Piece Y)) → ((t : ℕ) → option_map facts (value_at pieces t) ≡ g t)
+    → ((x : X) (y : Y) → Q x y → R (facts x) y) → AreAnswers Q pieces made → AreMadeOf R g made
+AreMadeOf-mapped {X} {Y} R Q facts g pieces made same through answers = record {
+  in_order = answers.in_order;
+  values = λ t. subst (λ o. IsAnswer R o (value_at made t)) (same t) (answer (value_at pieces t) (value_at made t) (answers.values t));
+}
+  where
+    answer : (o : Option X) (a : Option Y) → IsAnswer Q o a → IsAnswer R (option_map facts o) a
+    answer None a is = is
+    answer (Some x) None is = absurd is
+    answer (Some x) (Some y) is = through x y is
 
 -- the same at the facts of the vertex
 pub AreMadeOf-as : {X T : Type 0} (R : X → T → Type 0) (f g : ℕ → Option X) (made : List (Piece T)) → ((t : ℕ) → f t ≡ g t) → AreMadeOf R f made → AreMadeOf R g made

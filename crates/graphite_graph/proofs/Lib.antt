@@ -13,5 +13,6 @@ pub mod TravelLemmas
 pub mod CoverLemmas
 pub mod DepartureLemmas
 pub mod DegreeLemmas
+pub mod AliveLemmas
 pub mod FactsLemmas
 pub mod OpenLemmas

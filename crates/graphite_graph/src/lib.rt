@@ -3,15 +3,18 @@
 //! A [`Graph`] is seen in contracts as the plain graph that `graphite_text`'s specs define.
 #![tactic(auto)]
 
+mod alive;
 mod departure;
 mod ends;
 mod facts;
 mod fault;
 mod graph;
 mod hashed;
+mod made;
 mod names;
 mod numbered;
 mod open;
+mod property;
 mod reader;
 mod reading;
 mod show;

@@ -1,5 +1,6 @@
 //! Tests on texts that are read and graphs that are shown.
 use super::*;
+use graphite_base::Bytes;
 use graphite_part::Partition;
 use graphite_time::{Life, NoMemory};
 use std::alloc::{AllocError, Global};
@@ -89,12 +90,21 @@ fn assert_facts(rt: &impl Abort, facts: &[Partition<Facts>]) {
 
 /// The facts where out-degrees are asked.
 fn degrees_of(graph: &Graph<'_>) -> Result<Vec<Partition<Facts>>, NoMemory> {
-    graph.facts(&Ask { outdegree: true })
+    graph.facts(&Ask {
+        outdegree: true,
+        n: false,
+        key: None,
+    })
 }
 
 /// The number of each vertex over its life.
 fn numbers_of(graph: &Graph<'_>) -> Result<Vec<Partition<u32>>, NoMemory> {
-    graph.map_facts(&Ask { outdegree: false }, &|facts: Facts| { facts.vertex })
+    let none = Ask {
+        outdegree: false,
+        n: false,
+        key: None,
+    };
+    graph.map_facts(&none, &|facts: Facts| { facts.vertex })
 }
 
 fn assert_numbers(rt: &impl Abort, numbers: &[Partition<u32>]) {
@@ -108,6 +118,66 @@ fn facts_change_where_an_edge_begins_or_ends(rt: HostRuntime) -> Result<(), Fail
     let graph = load(rt.alloc(), three_stops())?;
     assert_facts(&rt, &degrees_of(&graph)?);
     assert_numbers(&rt, &numbers_of(&graph)?);
+    Ok(())
+}
+
+/// The facts where out-degrees and the number alive are asked.
+fn counted_facts_of(graph: &Graph<'_>) -> Result<Vec<Partition<Facts>>, NoMemory> {
+    graph.facts(&Ask {
+        outdegree: true,
+        n: true,
+        key: None,
+    })
+}
+
+fn assert_counted(rt: &impl Abort, facts: &Partition<Facts>) {
+    let pieces = facts.pieces();
+    assert_eq!(rt; pieces.len(), 1);
+    let last = Facts {
+        vertex: 2,
+        outdegree: 0,
+        n: 3,
+        prop: None,
+    };
+    assert_eq!(rt; (pieces[0].over.a(), pieces[0].over.b()), (2, 8));
+    assert_eq!(rt; pieces[0].value, last);
+}
+
+#[test]
+fn facts_have_the_number_alive(rt: HostRuntime) -> Result<(), Fail> {
+    let graph = load(rt.alloc(), three_stops())?;
+    let facts = counted_facts_of(&graph)?;
+    assert_eq!(rt; facts.len(), 3);
+    assert_counted(&rt, &facts[2]);
+    Ok(())
+}
+
+/// The facts where the property `load` is asked, and nothing else.
+fn loads_of(alloc: Global, graph: &Graph<'_>) -> Result<Vec<Partition<Facts>>, NoMemory> {
+    let key = Bytes::from_slice(alloc, b"load")?;
+    graph.facts(&Ask {
+        outdegree: false,
+        n: false,
+        key: Some(key),
+    })
+}
+
+/// The pieces of a vertex's facts: start, end and value of the property.
+fn assert_loads(rt: &impl Abort, facts: &Partition<Facts>, expected: &[(u64, u64, Option<u32>)]) {
+    let pieces = facts.pieces();
+    assert_eq!(rt; pieces.len(), expected.len());
+    for (piece, (a, b, prop)) in pieces.iter().zip(expected) {
+        assert_eq!(rt; (piece.over.a(), piece.over.b()), (*a, *b));
+        assert_eq!(rt; piece.value.prop, *prop);
+    }
+}
+
+#[test]
+fn facts_have_the_value_of_a_property(rt: HostRuntime) -> Result<(), Fail> {
+    let graph = load(rt.alloc(), bus())?;
+    let facts = loads_of(rt.alloc(), &graph)?;
+    assert_eq!(rt; facts.len(), 2);
+    assert_loads(&rt, &facts[0], &[(0, 4, Some(7)), (4, 10, None)]);
     Ok(())
 }
 

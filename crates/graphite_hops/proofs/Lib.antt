@@ -1,4 +1,4 @@
 mod Examples
 pub mod LinkLemmas
-pub mod OverlayLemmas
+pub mod PairedLemmas
 pub mod TravelLemmas

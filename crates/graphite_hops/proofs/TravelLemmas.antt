@@ -20,12 +20,11 @@ use Rattle.graphite_text.specs.Spans.{as_span}
 use Rattle.graphite_graph.specs.declared.ends.Ends.{Ends}
 use Rattle.graphite_graph.specs.Ends.{edge_ends}
 use Rattle.graphite_graph.proofs.LifeLemmas.{is_alive-as_span}
-use Rattle.graphite_props.specs.Properties.{is_property_of, has_property}
 use Rattle.graphite_api.specs.declared.arc.Arc.{Arc}
 use Rattle.graphite_api.proofs.RangeLemmas.{range_more}
 use Rattle.graphite_hops.specs.Arcs.{travel_at, arc_between, arc_on, AreArcsOf, EdgeAdded, IsArcIn}
 use Rattle.graphite_hops.specs.Links.{ends_of}
-use Rattle.graphite_hops.specs.Overlay.{paired}
+use Rattle.graphite_hops.specs.Paired.{paired}
 
 -- ---- answers
 
@@ -58,20 +57,6 @@ lives_more lives new vertices v life copy within before own same is =
     nobody = record { name = []; life = [] }
 
 -- ---- what is read of an edge
-
--- where no property has the owner and the key, none holds at any instant
-pub no_property : (properties : List PlainProperty) (owner : ℕ) (key : List ℕ) (t : ℕ) → has_property properties owner key ≡ false → property_at properties owner key t ≡ None
-no_property [] owner key t none = refl
-no_property (property ∷ properties) owner key t none =
-    let first = not_at (is_property_of owner key property) _ _ none in
-    ap (option_map (λ p. p.value)) (cond-false _ _ _ first.0) ∙ no_property properties owner key t first.1
-  where
-    not_at : (own held rest : Bool) → (own || rest) ≡ false → ((own && held) ≡ false) × (rest ≡ false)
-    not_at true held rest e = cc
-    not_at false held rest e = (refl, e)
-
-pub no_property_read : (properties all : List PlainProperty) (owner : ℕ) (key : List ℕ) → properties ≡ all → false ≡ has_property properties owner key → (t : ℕ) → None ≡ property_at all owner key t
-no_property_read properties all owner key is none t = subst (λ ps. None ≡ property_at ps owner key t) is (sym (no_property properties owner key t (sym none)))
 
 pub travel-paired : (graph : PlainGraph) (e : ℕ) (life : List Interval) (times costs : List (Piece ℕ)) → map as_span life ≡ edge_life graph e → ((t : ℕ) → value_at times t ≡ edge_property_at graph e (codes "time") t) → ((t : ℕ) → value_at costs t ≡ edge_property_at graph e (codes "cost") t)
     → (out : List (Piece (ℕ × ℕ))) → AreRuns (paired life times costs) out → AreRuns (travel_at graph e) out

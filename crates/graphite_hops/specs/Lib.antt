@@ -1,3 +1,3 @@
 pub mod Arcs
 pub mod Links
-pub mod Overlay
+pub mod Paired

@@ -4,7 +4,6 @@
 mod arcs;
 mod direction;
 mod lives;
-mod overlay;
 mod snapshot;
 mod travel;
 

@@ -1,13 +1,13 @@
 //! The time and the cost of an edge.
-ghost use Rattle.std.specs.Prelude.{◌≡◌, ◌<◌, ℕ, length, IfOk};
+ghost use Rattle.std.specs.Prelude.{◌≡◌, ◌<◌, ℕ, length, unwrap_or, IfOk};
 ghost use Rattle.graphite_part.specs.Pieces.{value_at, IsChain, AreRuns};
 ghost use Rattle.graphite_text.specs.Graph.{edge_property_at};
 ghost use Rattle.graphite_hops.specs.Arcs.{travel_at};
-ghost use Rattle.graphite_hops.specs.Overlay.{paired};
+ghost use Rattle.graphite_hops.specs.Paired.{paired};
 
-use crate::overlay::overlay;
 use graphite_graph::Graph;
 use graphite_part::{Partition, Piece};
+use graphite_props::beside;
 use graphite_time::{Life, NoMemory};
 use std::alloc::Global;
 
@@ -51,7 +51,10 @@ fn travel_on(
         return Partition::on_life(alloc, life, (1, 1));
     }
     let ones = Partition::on_life(alloc, life, 1)?;
-    let times = overlay(alloc, ones.pieces(), times)?;
-    let costs = overlay(alloc, ones.pieces(), costs)?;
-    times.zip(&costs)
+    let timed = beside(alloc, ones.pieces(), times)?;
+    let both = beside(alloc, timed.pieces(), costs)?;
+    let pair = |row: ((u32, Option<u32>), Option<u32>)| -> (u32, u32)
+        ensures { result ≡ (unwrap_or row.0.1 1, unwrap_or row.1 1) }
+    { (row.0.1.unwrap_or(1), row.1.unwrap_or(1)) };
+    both.map(&pair)
 }

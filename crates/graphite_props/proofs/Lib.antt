@@ -7,3 +7,4 @@ pub mod StoreLemmas
 pub mod TakenLemmas
 pub mod RowsLemmas
 pub mod PaintedLemmas
+pub mod BesideLemmas

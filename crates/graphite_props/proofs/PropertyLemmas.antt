@@ -106,3 +106,18 @@ none_on_apart ps owner key over apart t inside =
 pub is_property_of-own : (owner : ℕ) (key : List ℕ) (over : Interval) (value : ℕ) → is_property_of owner key (property owner key over value) ≡ true
 is_property_of-own owner key over value =
     ap (λ b. b && bytes_eq key key) (eq-eqb owner owner refl) ∙ (bytes_eq-Decides key key).1 refl
+
+-- where no property has the owner and the key, none holds at any instant
+no_property : (properties : List PlainProperty) (owner : ℕ) (key : List ℕ) (t : ℕ) → has_property properties owner key ≡ false → property_at properties owner key t ≡ None
+no_property [] owner key t none = refl
+no_property (property ∷ properties) owner key t none =
+    let first = not_at (is_property_of owner key property) _ none in
+    ap (option_map (λ p. p.value)) (cond-false _ _ _ (is_property_at-parts owner key t property ∙ ap (λ b. b && spans property.over t) first.0)) ∙ no_property properties owner key t first.1
+  where
+    not_at : (own rest : Bool) → (own || rest) ≡ false → (own ≡ false) × (rest ≡ false)
+    not_at true rest e = cc
+    not_at false rest e = (refl, e)
+
+-- the same where it was read
+pub no_property_read : (properties all : List PlainProperty) (owner : ℕ) (key : List ℕ) → properties ≡ all → false ≡ has_property properties owner key → (t : ℕ) → None ≡ property_at all owner key t
+no_property_read properties all owner key is none t = sym (no_property all owner key t (sym (none ∙ ap (λ ps. has_property ps owner key) is)))

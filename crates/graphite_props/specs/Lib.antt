@@ -5,3 +5,4 @@ pub mod Hasher
 pub mod Turn
 pub mod Places
 pub mod Taken
+pub mod Beside

@@ -12,6 +12,7 @@ mod places;
 mod places_of;
 mod row;
 mod rows;
+mod sides;
 mod taken;
 mod timelines;
 mod turn;
@@ -19,6 +20,7 @@ mod turn;
 pub use fault::AddFault;
 pub use row::PropRow;
 pub use rows::Rows;
+pub use sides::beside;
 pub use timelines::Timelines;
 
 #[cfg(test)]

@@ -14,8 +14,8 @@ loop-v-init g c = record {
 pub made_of_vertex-requires-clause-callable : goal.made_of_vertex-requires-clause-callable
 made_of_vertex-requires-clause-callable g c =
     let v = c.loop-v.v in
-    let covered = covered_facts-asked c.args.graph.now c.args.ask.now v c.vertex_life.result.now c.deref.result.now c.vertex_life.ensures.life
-    (λ t. ap (λ xs. covers_at xs t) c.deref.ensures.value ∙ c.in_ok-rest.ensures.covers t ∙ c.loop-v.invariant.counts v t (omega arith)) in
+    let covered = covered_facts-asked c.args.graph.now c.args.ask.now v c.vertex_life-life.result.now c.deref.result.now c.args.numbers.now c.asked_property-property.result.now c.vertex_life-life.ensures.life
+    (λ t. ap (λ xs. covers_at xs t) c.deref.ensures.value ∙ c.in_ok-rest.ensures.covers t ∙ c.loop-v.invariant.counts v t (omega arith)) c.requires.numbers c.asked_property-property.ensures.values in
     λ t x is. c.requires.callable v t x (sym (covered t) ∙ is)
 
 pub loop-v-preserved : goal.loop-v-preserved
@@ -24,8 +24,8 @@ loop-v-preserved g c =
     let ask = c.args.ask.now in
     let v = c.loop-v.v in
     let made = c.in_ok-made_of_vertex.field-0 in
-    let covered = covered_facts-asked graph ask v c.vertex_life.result.now c.deref.result.now c.vertex_life.ensures.life
-    (λ t. ap (λ xs. covers_at xs t) c.deref.ensures.value ∙ c.in_ok-rest.ensures.covers t ∙ c.loop-v.invariant.counts v t (omega arith)) in
+    let covered = covered_facts-asked graph ask v c.vertex_life-life.result.now c.deref.result.now c.args.numbers.now c.asked_property-property.result.now c.vertex_life-life.ensures.life
+    (λ t. ap (λ xs. covers_at xs t) c.deref.ensures.value ∙ c.in_ok-rest.ensures.covers t ∙ c.loop-v.invariant.counts v t (omega arith)) c.requires.numbers c.asked_property-property.ensures.values in
     record {
       ordered = c.in_ok-rest.ensures.ordered;
       edges = c.in_ok-rest.ensures.edges;

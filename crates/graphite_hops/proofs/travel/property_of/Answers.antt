@@ -1,4 +1,4 @@
-use Rattle.graphite_hops.proofs.TravelLemmas.{no_property_read}
+use Rattle.graphite_props.proofs.PropertyLemmas.{no_property_read}
 use Rattle.graphite_hops.proofs.travel.property_of.Goals as goal
 
 pub returns-in-None-clause-values : goal.returns-in-None-clause-values

@@ -1,6 +1,6 @@
 use Rattle.graphite_part.specs.Pieces.{AreRuns}
 use Rattle.graphite_hops.specs.Arcs.{travel_at}
-use Rattle.graphite_hops.specs.Overlay.{paired}
+use Rattle.graphite_hops.specs.Paired.{paired}
 use Rattle.graphite_hops.proofs.TravelLemmas.{IfOk-to, travel-paired}
 use Rattle.graphite_hops.proofs.travel.travel_of.Goals as goal
 

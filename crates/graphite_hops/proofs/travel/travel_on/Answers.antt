@@ -1,20 +1,18 @@
-use Rattle.std.proofs.Common.{subst}
-use Rattle.graphite_part.specs.Calls.{zipped}
+use Rattle.std.proofs.Common.{rules, subst}
+use Rattle.std.proofs.lemmas.Result.{IfOk-weaker}
 use Rattle.graphite_part.specs.Pieces.{value_at, AreRuns}
-use Rattle.graphite_hops.specs.Overlay.{overlaid, paired}
-use Rattle.graphite_hops.proofs.OverlayLemmas.{paired-runs}
-use Rattle.graphite_hops.proofs.TravelLemmas.{IfOk-to}
+use Rattle.graphite_props.specs.Beside.{beside}
+use Rattle.graphite_hops.proofs.PairedLemmas.{paired-runs}
 use Rattle.graphite_hops.proofs.travel.travel_on.Goals as goal
 
--- src/travel.rt:40:1
 pub returns : goal.returns
 returns c =
-    let life = c.args.life.now in
-    let ones = c.in_ok-ones.ones in
-    let times = c.in_ok-times.times in
-    let costs = c.in_ok-costs.costs in
-    IfOk-to (AreRuns (zipped (value_at times) (value_at costs))) (AreRuns (paired life c.args.times.now c.args.costs.now)) c.zip.result
-    (λ out. paired-runs life c.args.times.now c.args.costs.now ones times costs out c.in_ok-ones.ensures
-    (subst (λ xs. AreRuns (overlaid (value_at xs) (value_at c.args.times.now)) times) c.pieces.ensures.pieces c.in_ok-times.ensures)
-    (subst (λ xs. AreRuns (overlaid (value_at xs) (value_at c.args.costs.now)) costs) c.pieces-2.ensures.pieces c.in_ok-costs.ensures))
-    c.zip.ensures
+    let times = c.args.times.now in
+    let costs = c.args.costs.now in
+    let timed = c.in_ok-timed.timed in
+    let both = c.in_ok-both.both in
+    let by_times = subst (λ xs. AreRuns (beside (value_at xs) (value_at times)) timed) c.pieces.ensures.pieces c.in_ok-timed.ensures in
+    let by_costs = subst (λ xs. AreRuns (beside (value_at xs) (value_at costs)) both) c.pieces-2.ensures.pieces c.in_ok-both.ensures in
+    IfOk-weaker c.map.result _ _
+    (λ out answers. paired-runs _ c.args.life.now times costs c.in_ok-ones.ones timed both out (λ row y met. search rules) c.in_ok-ones.ensures by_times by_costs answers)
+    c.map.ensures
