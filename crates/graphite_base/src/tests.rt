@@ -1,10 +1,29 @@
 //! Ends in memory and of the system, whole texts, and numbers.
 use super::*;
 use std::alloc::Global;
+use std::hash::{DefaultHasher, Hash, Hasher};
 use std::io;
 use std::io::{Error, ErrorKind, Read, Write};
 use std::process::Abort;
 use std::test::Fail;
+
+/// What a hasher makes of a value.
+fn hash_of(bytes: &Bytes) -> u64 {
+    let mut hasher = DefaultHasher::new();
+    bytes.hash(&mut hasher);
+    hasher.finish()
+}
+
+#[test]
+fn bytes_are_kept(rt: HostRuntime) -> Result<(), Fail> {
+    let kept = Bytes::from_slice(rt.alloc(), b"a")?;
+    let again = Bytes::from_slice(rt.alloc(), b"a")?;
+    let other = Bytes::from_slice(rt.alloc(), b"ab")?;
+    assert_eq!(rt; kept.as_slice(), b"a".as_slice());
+    assert!(rt; kept == again && kept != other);
+    assert_eq!(rt; hash_of(&kept), hash_of(&again));
+    Ok(())
+}
 
 #[test]
 fn a_text_is_read_up_to_a_limit(rt: HostRuntime) -> Result<(), Fail> {

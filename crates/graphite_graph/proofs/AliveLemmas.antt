@@ -1,5 +1,5 @@
 -- The numbers of vertices alive: the lifespans of all vertices count them.
-use Rattle.std.proofs.Common.{◌≡◌, ℕ, ◌+◌, ◌<◌, ◌≤◌, Bool, true, false, cond, List, [], ◌∷◌, ◌++◌, length, map, take, get_or, count_by, sum_by, Some, None, option_map, slice_get, refl, sym, ap, ◌∙◌, arith, suc, ⊎_elim}
+use Rattle.std.proofs.Common.{◌≡◌, ℕ, ◌+◌, ◌<◌, ◌≤◌, false, cond, List, [], ◌∷◌, ◌++◌, length, map, take, get_or, count_by, sum_by, Some, None, option_map, slice_get, refl, sym, ap, ◌∙◌, arith, suc, ⊎_elim}
 use Rattle.std.specs.Prelude.{unwrap_or}
 use Rattle.std.specs.Option.{option_map_or}
 use Rattle.std.proofs.lemmas.List.{length-map}

@@ -1,5 +1,5 @@
 -- A graph whose properties stand beside its store: what one more vertex or edge changes.
-use Rattle.std.proofs.Common.{◌≡◌, ap, ◌≤◌, ◌∷◌, ◌++◌, [], ℕ, Bool, true, false, List, length, length-append, arith, Result, Ok, Err, if◌then◌else◌, IfOk, OnErr}
+use Rattle.std.proofs.Common.{◌≡◌, ap, ◌≤◌, ◌∷◌, [], ℕ, Bool, true, false, List, length, length-append, arith, Result, Ok, Err, if◌then◌else◌, IfOk, OnErr}
 use Rattle.graphite_text.specs.declared.span.Span.{Span}
 use Rattle.graphite_text.specs.Graph.{PlainGraph, PlainVertex, PlainEdge, PlainProperty}
 use Rattle.graphite_graph.specs.declared.ends.Ends.{Ends}

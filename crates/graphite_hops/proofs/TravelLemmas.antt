@@ -1,5 +1,5 @@
 -- The time and the cost of an edge, and its arcs.
-use Rattle.std.proofs.Common.{◌≡◌, refl, sym, ap, subst, ◌∙◌, ℕ, zero, suc, ◌+◌, ◌<◌, ◌≤◌, ◌==◌, ◌&&◌, ◌||◌, arith, Bool, true, false, cond, List, [], ◌∷◌, ◌++◌, All, map, length, take, get_or, Some, None, IsTrue, option_map, Result, Ok, Err, IfOk, OnOk, slice_get, eq-eqb, ⊎_elim}
+use Rattle.std.proofs.Common.{◌≡◌, refl, sym, ap, subst, ◌∙◌, ℕ, zero, suc, ◌+◌, ◌<◌, ◌≤◌, ◌==◌, arith, Bool, true, false, cond, List, [], ◌∷◌, ◌++◌, All, map, length, take, get_or, Some, None, IsTrue, Result, Ok, Err, IfOk, OnOk, slice_get, eq-eqb, ⊎_elim}
 use Rattle.std.specs.Prelude.{unwrap_or, codes}
 use Rattle.std.specs.List.{flat_map, range_with_len}
 use Rattle.std.proofs.lemmas.Bool.{cases_lt, cond-true, cond-false, false_from_ne_true, eqb-true}
@@ -15,7 +15,7 @@ use Rattle.graphite_time.proofs.LifeLemmas.{holds-true}
 use Rattle.graphite_part.specs.declared.piece.Piece.{Piece}
 use Rattle.graphite_part.specs.Pieces.{value_at, IsChain, AreRuns}
 use Rattle.graphite_part.proofs.PiecesLemmas.{value_at-here, value_at-later, value_at-tail, holds_start}
-use Rattle.graphite_text.specs.Graph.{PlainGraph, PlainProperty, PlainVertex, is_alive, property_at, edge_property_at, vertex_is_alive, edge_is_alive, edge_life, travel_time, travel_cost}
+use Rattle.graphite_text.specs.Graph.{PlainGraph, PlainVertex, is_alive, edge_property_at, vertex_is_alive, edge_is_alive, edge_life, travel_time, travel_cost}
 use Rattle.graphite_text.specs.Spans.{as_span}
 use Rattle.graphite_graph.specs.declared.ends.Ends.{Ends}
 use Rattle.graphite_graph.specs.Ends.{edge_ends}

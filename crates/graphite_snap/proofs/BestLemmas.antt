@@ -167,7 +167,7 @@ module _ {S : Type 0} (plan : Plan S ℕ) (value : S → Option ℕ) (AsGood : �
     best_first v state alive (Some b) has = (
       here zero v state b alive has,
       λ y h. let is : b ≡ y = same_Some _ _ (sym has ∙ not_carried v y h.from h.begun h.walk state alive h.leads h.short h.starts h.is) in
-      subst (AsGood b) is (improving.itself b),
+          subst (AsGood b) is (improving.itself b),
     )
 
     right_first : (v : ℕ) (own : Next S) → after plan g (suc zero) v ≡ Some own → IsRight zero v own

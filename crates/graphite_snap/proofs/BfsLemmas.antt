@@ -43,7 +43,7 @@ kept k x group held heard = record {
   best = (
     inl refl,
     λ y h. ⊎_elim (λ (is : Some x ≡ Some y). let same : x ≡ y = same_Some x y is in omega (arith, same))
-    (λ (among : Contains group y). let is : y ≡ min (suc k) top = heard y among in omega (arith, is, held.0, held.1)) h,
+        (λ (among : Contains group y). let is : y ≡ min (suc k) top = heard y among in omega (arith, is, held.0, held.1)) h,
   );
   silent = λ _. refl;
   held = λ y is. let same : x ≡ y = same_Some x y is in subst (Held (suc (suc k))) same (omega (arith, held.0), held.1);

@@ -201,8 +201,7 @@ module _ (g : Snapshot (Option ℕ)) (sound : IsSound g) where
       (h.from, begins ∙ ap (λ x. Some (Some x)) zero_is, h.walk, h.leads, short, sym cost.0 ∙ ap (λ x. carry costed x h.walk) (sym zero_is) ∙ h.is))
       (λ c h.
       let short : length h.2 < k = h.4 in
-      let cost = cost_of h.0 v h.2 h.3 (omega (arith, short, last)) in
-      (
+      let cost = cost_of h.0 v h.2 h.3 (omega (arith, short, last)) in (
         c,
         record {
           from = h.0;

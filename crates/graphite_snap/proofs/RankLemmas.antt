@@ -102,8 +102,8 @@ module _ (g : Snapshot RankState) (sound : IsSound g) (n : ℕ) (outdegree : ℕ
       (sum_by-IsPermutation (λ n. n) (notes_to rank_plan g.links (after rank_plan g (suc k)) v) _ (IsPermutation-sorted nat_cmp _)
       ∙ sum-told told here
       ∙ sum_by-same (λ link. number (told link)) share here
-        (All-filter (λ link. link.to == v) (λ link. number (told link) ≡ share link) g.links
-        (λ j d within. told_is k before _ (sound j d within))))
+      (All-filter (λ link. link.to == v) (λ link. number (told link) ≡ share link) g.links
+      (λ j d within. told_is k before _ (sound j d within))))
 
   are_ranked_next : (k : ℕ) → AreRanked k → AreRanked (suc k)
   are_ranked_next k before v own is = by (after rank_plan g (suc k) v) refl is

@@ -159,10 +159,18 @@ fn cheapened(sum: Option<u64>, told: Option<u64>) -> Next<Option<u64>>
     ensures { result ≡ cheapened sum told }
 {
     let Some(told) = told else {
-        return Next { state: sum, send: false };
+        return Next {
+            state: sum,
+            send: false,
+        };
     };
-    if let Some(own) = sum && own <= told {
-        return Next { state: sum, send: false };
+    if let Some(own) = sum
+        && own <= told
+    {
+        return Next {
+            state: sum,
+            send: false,
+        };
     }
     Next {
         state: Some(told),

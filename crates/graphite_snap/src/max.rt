@@ -160,10 +160,18 @@ fn raised(value: Option<u32>, told: Option<u32>) -> Next<Option<u32>>
     ensures { result ≡ raised value told }
 {
     let Some(told) = told else {
-        return Next { state: value, send: false };
+        return Next {
+            state: value,
+            send: false,
+        };
     };
-    if let Some(own) = value && own >= told {
-        return Next { state: value, send: false };
+    if let Some(own) = value
+        && own >= told
+    {
+        return Next {
+            state: value,
+            send: false,
+        };
     }
     Next {
         state: Some(told),

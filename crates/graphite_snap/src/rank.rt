@@ -7,9 +7,8 @@ ghost use Rattle.graphite_snap.specs.Description.{meaning};
 ghost use Rattle.graphite_snap.specs.Rank.{rank, rank_equation, rank_of, rank_next, rank_note, rank_plan};
 ghost use Rattle.graphite_snap.specs.declared.rank.TheConstants.{SCALE};
 
-use crate::RankState;
-use crate::SnapAnswer;
 use crate::described::{SnapProgram, answer_of};
+use crate::{RankState, SnapAnswer};
 use graphite_api::{Arc, Message, Next, PointProgram, Program};
 use graphite_graph::{Ask, Facts, Graph};
 use graphite_hops::Direction;
@@ -124,11 +123,7 @@ impl SnapProgram for AllRanks {
 
 /// The ranks of all vertices after `steps` supersteps, of which there are 1 to
 /// [`graphite_api::STEP_LIMIT`].
-pub(crate) fn ranks_of(
-    alloc: Global,
-    graph: &Graph<'_>,
-    steps: u32,
-) -> Result<SnapAnswer, NoMemory>
+pub(crate) fn ranks_of(alloc: Global, graph: &Graph<'_>, steps: u32) -> Result<SnapAnswer, NoMemory>
     requires some { 1 ≤ steps }
     requires few { steps ≤ STEP_LIMIT }
     ensures answer { IfOk result (λ answer. IsAnswer (meaning rank) graph.now steps

@@ -129,7 +129,16 @@ fn assert_printed(rt: &impl Abort, values: &[Partition<Option<u64>>], rows: &[Ro
 fn numbers(alloc: Global) -> Result<Vec<Partition<Option<u64>>>, Fail> {
     let graph = load(alloc, three_stops())?;
     let number = |facts: Facts| Some(u64::from(facts.vertex));
-    Ok(point_start(alloc, &graph, &Ask { outdegree: false, n: false, key: None }, &number)?)
+    Ok(point_start(
+        alloc,
+        &graph,
+        &Ask {
+            outdegree: false,
+            n: false,
+            key: None,
+        },
+        &number,
+    )?)
 }
 
 fn degrees(alloc: Global) -> Result<SnapAnswer, Fail> {

@@ -1,7 +1,6 @@
 -- What is behind the prefix is read as a number.
-use Rattle.std.proofs.Common.{◌≡◌, ◌-◌, ◌^◌, ◌∙◌, sym, ap, true, false}
+use Rattle.std.proofs.Common.{◌-◌, ◌^◌, ◌∙◌, sym, ap}
 use Rattle.std.proofs.lemmas.Bool.{cond-true, cond-false}
-use Rattle.std.specs.Str.{bytes_eq}
 use Rattle.graphite_base.specs.Numbers.{number_in}
 use Rattle.graphite_graph.specs.Numbered.{number_after}
 use Rattle.graphite_graph.proofs.numbered.number_after.Goals as goal

@@ -1,6 +1,5 @@
 -- What the reader gave, after reads that were interrupted and moved nothing.
-use Rattle.std.proofs.Common.{◌≡◌, ◌<◌, length, rules, arith, ap, subst, take}
-use Rattle.std.proofs.KnownBytes.{Keeps-trans, Keeps-refl}
+use Rattle.std.proofs.Common.{rules}
 use Rattle.graphite_base.proofs.KnownLemmas.{Consumes-later, ended}
 use Rattle.graphite_base.proofs.std_source.StdSourceSource.read.Goals as goal
 

@@ -1,6 +1,5 @@
 -- A name has no place but the one that its number gives.
-use Rattle.std.proofs.Common.{◌≡◌, ◌+◌, ◌<◌, ◌∙◌, sym, subst, length, arith}
-use Rattle.std.proofs.lemmas.Option.{same_Some}
+use Rattle.std.proofs.Common.{◌<◌, sym, subst, length, arith}
 use Rattle.graphite_graph.specs.Numbered.{AreNumbered}
 use Rattle.graphite_graph.proofs.NumberedLemmas.{place_of_number, past_is_new, no_place}
 use Rattle.graphite_graph.proofs.numbered.NumberedNames.number_of.Goals as goal
