@@ -1,6 +1,7 @@
 //! Rank on single calls.
 use super::*;
-use graphite_api::{Arc, Message, Next, Program};
+use crate::tests::edge_of_cost_9;
+use graphite_api::{Message, Next, Program};
 use graphite_time::Interval;
 use std::test::Fail;
 
@@ -31,15 +32,7 @@ fn a_vertex_takes_shares_and_tells_its_own(rt: HostRuntime) -> Result<(), Fail> 
     assert_eq!(rt; next.send, true);
     assert_eq!(rt; program.calls(), 2);
     let over = Interval::new(0, 5).ok_or("an empty interval")?;
-    let arc = Arc {
-        from: 0,
-        edge: 0,
-        over,
-        to: 1,
-        time: 7,
-        cost: 9,
-        stay: over,
-    };
+    let arc = edge_of_cost_9(over);
     let note = 415_000_000;
     assert_eq!(rt;
         program.scatter(next.state, &arc, over),

@@ -58,7 +58,19 @@ fn a_search_starts_and_goes_on(rt: HostRuntime) -> Result<(), Fail> {
     assert_eq!(rt; bfs.compute(3, Some(1), &[2]), outcome(Some(1), false));
     assert_eq!(rt; bfs.calls(), 4);
     let over = Interval::new(0, 5).ok_or("an empty interval")?;
-    let arc = Arc {
+    let arc = edge_of_cost_9(over);
+    assert_eq!(rt;
+        bfs.scatter(Some(2), &arc, over),
+        Some(Message { over, note: 3 })
+    );
+    assert_eq!(rt; told_along(&bfs, None, &arc, over), None);
+    Ok(())
+}
+
+/// An edge from the first vertex to the second over the instants 0 to 4, which takes 7 instants and
+/// costs 9.
+pub(crate) fn edge_of_cost_9(over: Interval) -> Arc {
+    Arc {
         from: 0,
         edge: 0,
         over,
@@ -66,12 +78,70 @@ fn a_search_starts_and_goes_on(rt: HostRuntime) -> Result<(), Fail> {
         time: 7,
         cost: 9,
         stay: over,
-    };
+    }
+}
+
+#[test]
+fn a_vertex_takes_a_lower_number(rt: HostRuntime) -> Result<(), Fail> {
+    let mut program = Components::new();
     assert_eq!(rt;
-        bfs.scatter(Some(2), &arc, over),
-        Some(Message { over, note: 3 })
+        program.compute(1, 5, &[]),
+        Next {
+            state: 5,
+            send: true
+        }
     );
-    assert_eq!(rt; told_along(&bfs, None, &arc, over), None);
+    assert_eq!(rt;
+        program.compute(2, 5, &[3, 8]),
+        Next {
+            state: 3,
+            send: true
+        }
+    );
+    assert_eq!(rt;
+        program.compute(3, 3, &[3, 4]),
+        Next {
+            state: 3,
+            send: false
+        }
+    );
+    assert_eq!(rt; program.calls(), 3);
+    let over = Interval::new(0, 5).ok_or("an empty interval")?;
+    let told = program.scatter(3, &edge_of_cost_9(over), over);
+    assert_eq!(rt; told, Some(Message { over, note: 3 }));
+    Ok(())
+}
+
+#[test]
+fn a_vertex_takes_a_greater_value(rt: HostRuntime) -> Result<(), Fail> {
+    let mut program = Max::new();
+    assert_eq!(rt; program.compute(1, None, &[]), outcome(None, false));
+    assert_eq!(rt; program.compute(2, None, &[3, 8]), outcome(Some(8), true));
+    assert_eq!(rt;
+        program.compute(3, Some(8), &[3, 8]),
+        outcome(Some(8), false)
+    );
+    assert_eq!(rt; program.calls(), 3);
+    let over = Interval::new(0, 5).ok_or("an empty interval")?;
+    let told = program.scatter(Some(8), &edge_of_cost_9(over), over);
+    assert_eq!(rt; told, Some(Message { over, note: 8 }));
+    Ok(())
+}
+
+fn sum(state: Option<u64>, send: bool) -> Next<Option<u64>> {
+    Next { state, send }
+}
+
+#[test]
+fn a_vertex_takes_a_lower_cost(rt: HostRuntime) -> Result<(), Fail> {
+    let mut program = Distance::new();
+    assert_eq!(rt; program.compute(1, Some(0), &[]), sum(Some(0), true));
+    assert_eq!(rt; program.compute(2, Some(7), &[3, 8]), sum(Some(3), true));
+    assert_eq!(rt; program.compute(3, Some(3), &[4]), sum(Some(3), false));
+    assert_eq!(rt; program.calls(), 3);
+    let over = Interval::new(0, 5).ok_or("an empty interval")?;
+    let told = program.scatter(Some(3), &edge_of_cost_9(over), over);
+    assert_eq!(rt; told, Some(Message { over, note: 12 }));
     Ok(())
 }
 
