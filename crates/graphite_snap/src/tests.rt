@@ -69,7 +69,9 @@ fn a_search_starts_and_goes_on(rt: HostRuntime) -> Result<(), Fail> {
 
 /// An edge from the first vertex to the second over the instants 0 to 4, which takes 7 instants and
 /// costs 9.
-pub(crate) fn edge_of_cost_9(over: Interval) -> Arc {
+pub(crate) fn edge_of_cost_9(over: Interval) -> Arc
+    ensures { result.over ≡ over }
+{
     Arc {
         from: 0,
         edge: 0,
