@@ -3,6 +3,7 @@ pub mod NoteLemmas
 pub mod DropLemmas
 pub mod Examples
 pub mod DeliveryLemmas
+pub mod OrderLemmas
 pub mod PartLemmas
 pub mod PointLemmas
 pub mod PointRunLemmas

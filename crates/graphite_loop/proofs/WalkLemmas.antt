@@ -238,6 +238,15 @@ IsWalking-none rules arcs k states0 deliveries0 deliveries count none rising = r
   few = omega arith;
 }
 
+-- a walk given up before its first vertex made no calls
+pub IsGivenUp-none : {S M : Type 0} (rules : Rules S M) (k : ℕ) (old : Standing S M) (count : ℕ) → IsGivenUp rules k old count count
+IsGivenUp-none rules k old count = record {
+  inputs = [];
+  within = omega arith;
+  inputs_are = λ v less. absurd (omega (arith, less));
+  at_most = omega arith;
+}
+
 module _ {S M : Type 0} (rules : Rules S M) (arcs : List Arc) (k : ℕ) (states0 : List (List (Piece S))) (deliveries0 : List (Delivery M)) (chains : All IsChain states0) (next v : ℕ) (states : List (List (Piece S))) (deliveries : List (Delivery M)) (sends : Bool) (before now : ℕ) (rest : List (Delivery M)) (walking : IsWalking rules arcs k states0 deliveries0 next states deliveries sends before now rest) (after : next ≤ v) where
   -- the inbox of a vertex to come
   box_is : (w : ℕ) → next ≤ w → w < length states0 → list_at (inboxes_of (length states0) deliveries0) w ≡ inbox_of rest w

@@ -3,6 +3,7 @@
 #![tactic(auto)]
 
 mod delivery;
+mod order;
 mod points;
 mod run;
 mod scatter;

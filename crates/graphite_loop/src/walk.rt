@@ -8,6 +8,7 @@ ghost use Rattle.graphite_loop.specs.Vertex.{IsVertexStep, IsIdle, NoMoreCalls};
 ghost use Rattle.graphite_loop.specs.Walk.{IsWalked, IsGivenUp};
 
 use crate::Delivery;
+use crate::order::sort_deliveries;
 use crate::scatter::scatter;
 use crate::vertex::{Outcome, compute_vertex, set_states};
 use graphite_api::{Arc, ArcTable, Message, Program};
@@ -55,9 +56,11 @@ fn walk<P: Program>(
         (standing_of states.items deliveries.now) (P.count program.old) (P.count program.new)) }
     ensures few { P.count program.new ≤ P.count program.old + 2 ^ 96 }
 {
+    // mostly about as many are sent as were read
+    let outgoing = Vec::with_capacity(alloc, deliveries.len())?;
     let mut made = Made {
         states,
-        deliveries: Vec::new(alloc),
+        deliveries: outgoing,
         sends: false,
     };
     let mut buffers = Buffers {
@@ -209,13 +212,4 @@ pub(crate) fn make_superstep<P: Program>(
     let mut made = walk(alloc, table, program, step, states, &deliveries)?;
     sort_deliveries(&mut made.deliveries)?;
     Ok(made)
-}
-
-/// Puts deliveries in the order of the vertices that they come to.
-fn sort_deliveries<M: Plain>(deliveries: &mut Vec<Delivery<M>>) -> Result<(), NoMemory>
-    ensures inboxes { OnOk result ((w : ℕ) → inbox_of deliveries.new.items w ≡ inbox_of deliveries.old.items w) }
-    ensures rising { OnOk result (AreRising 0 deliveries.new.items) }
-{
-    deliveries.sort_by_key(|delivery| delivery.to)?;
-    Ok(())
 }
