@@ -3,7 +3,7 @@ use Rattle.std.proofs.Common.{◌≡◌, ◌∙◌, sym, ap, subst, refl, ℕ, z
 use Rattle.std.specs.declared.result.Result.{Result}
 use Rattle.std.proofs.lemmas.Bool.{false≢true, eq-eqb, eqb-true}
 use Rattle.std.proofs.lemmas.Option.{none-some, same_Some}
-use Rattle.std.specs.Option.{option_map_or}
+use Rattle.std.specs.Option.{option_map_or, ForSome}
 use Rattle.std.proofs.lemmas.List.Elements.{All-contains}
 use Rattle.std.proofs.lemmas.List.Sums.{sum_by-cons}
 use Rattle.graphite_part.specs.declared.piece.Piece.{Piece}
@@ -158,6 +158,14 @@ some_alive graph v t alive = by (slice_get graph.vertices v) refl alive
     by : (o : Option PlainVertex) → slice_get graph.vertices v ≡ o → is_alive (option_map_or (λ vertex. vertex.life) o []) t ≡ true → 1 ≤ number_alive graph t
     by None e dead = absurd (false≢true dead)
     by (Some vertex) e here = count_some t graph.vertices v vertex e here
+
+-- so where the number is asked it is at least 1 in all facts
+pub number_asked : (graph : PlainGraph) (ask : Ask) (v t : ℕ) → ask.n ≡ true → ForSome (facts_at graph ask v t) (λ facts. 1 ≤ facts.n)
+number_asked graph ask v t asked facts is = by (vertex_is_alive graph v t) refl is
+  where
+    by : (b : Bool) → vertex_is_alive graph v t ≡ b → cond b (Some (facts_of graph ask v t)) None ≡ Some facts → 1 ≤ facts.n
+    by false e none = absurd (none-some facts none)
+    by true e same = subst (λ (f : Facts). 1 ≤ f.n) (same_Some (facts_of graph ask v t) facts same) (subst (λ b. 1 ≤ cond b (number_alive graph t) 0) (sym asked) (some_alive graph v t e))
 
 -- what a vertex starts with whose out-degree and whose number of vertices are these
 begun_fields : (rank outdegree n : ℕ) (s : RankState) → 1 ≤ n → begun_with rank outdegree n ≡ s → (s.rank ≡ rank) × (s.outdegree ≡ outdegree) × (s.n ≡ n)

@@ -2,7 +2,7 @@
 use Rattle.std.proofs.Common.{◌≡◌, ◌≤◌, ℕ, Bool, true, false, nat_le, Option, Some, None, unwrap_or, Ordering, refl}
 use Rattle.std.specs.Ordering.{nat_cmp, ordering_then}
 use Rattle.std.proofs.lemmas.Bool.{leb-true}
-use Rattle.std.proofs.Props.{props}
+use Rattle.std.proofs.Math.Bridge.{le_prop}
 use mathlib.Core.HLevel.{is_prop→PathP}
 use Rattle.graphite_part.specs.Plain.{IsExact}
 use Rattle.graphite_part.specs.PlainLaws.{nat_exact, pair_exact}
@@ -28,13 +28,17 @@ begun_with rank outdegree n = unwrap_or (state_with rank outdegree n) alone
 abbrev pub rank_order : RankState → RankState → Ordering
 rank_order x y = ordering_then (nat_cmp x.rank y.rank) (ordering_then (nat_cmp x.outdegree y.outdegree) (nat_cmp x.n y.n))
 
+-- by out-degree, and then by the number of vertices
+abbrev two_order : ℕ × ℕ → ℕ × ℕ → Ordering
+two_order x y = ordering_then (nat_cmp x.0 y.0) (nat_cmp x.1 y.1)
+
 pub rank_exact : IsExact rank_order
 rank_exact x y h =
-    let same = pair_exact nat_cmp _ nat_exact (pair_exact nat_cmp nat_cmp nat_exact nat_exact)
+    let same = pair_exact nat_cmp two_order nat_exact (pair_exact nat_cmp nat_cmp nat_exact nat_exact)
     (x.rank, (x.outdegree, x.n)) (y.rank, (y.outdegree, y.n)) h in
     λ i. record {
       rank = (same i).0;
       outdegree = (same i).1.0;
       n = (same i).1.1;
-      proper = is_prop→PathP (λ j. 1 ≤ (same j).1.1) (λ j. hlevel props) x.proper y.proper i;
+      proper = is_prop→PathP (λ j. 1 ≤ (same j).1.1) (λ j. le_prop) x.proper y.proper i;
     }

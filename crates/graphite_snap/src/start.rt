@@ -1,5 +1,5 @@
 //! The states that a program of snapshots starts with.
-ghost use Rattle.std.specs.Prelude.{◌≡◌, ◌<◌, ℕ, length, vec_len, slice_index_or, [], IfOk};
+ghost use Rattle.std.specs.Prelude.{◌≡◌, ◌<◌, ◌≤◌, ℕ, true, length, vec_len, slice_index_or, [], IfOk};
 ghost use Rattle.std.specs.Option.{ForSome};
 ghost use Rattle.graphite_graph.specs.Facts.{facts_at, AreMadeOf};
 
@@ -21,6 +21,7 @@ pub fn point_start<S: Plain, F: Fn(Facts) -> S>(
     ensures len { IfOk result (λ start. vec_len start ≡ length graph.now.vertices) }
     ensures start { IfOk result (λ start. (v : ℕ) → v < length graph.now.vertices
         → AreMadeOf (F.post init.now) (facts_at graph.now ask.now v) (slice_index_or start.items v [])) }
+    ensures number { ask.now.n ≡ true → (v t : ℕ) → ForSome (facts_at graph.now ask.now v t) (λ facts. 1 ≤ facts.n) }
 {
     graph.map_facts(ask, init)
 }
