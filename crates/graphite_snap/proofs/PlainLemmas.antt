@@ -15,7 +15,7 @@ use Rattle.graphite_api.specs.Snapshot.{Link, Snapshot}
 use Rattle.graphite_api.specs.Supersteps.{after, state_after}
 use Rattle.graphite_api.specs.Rules.{state_of}
 use Rattle.graphite_api.proofs.SuperstepLemmas.{after-some}
-use Rattle.graphite_snap.specs.Answers.{IsAnswer, AreSaid}
+use Rattle.graphite_snap.specs.Answers.{IsAnswer, MeetEquation}
 use Rattle.graphite_snap.specs.Walk.{IsWalk, IsReached}
 use Rattle.graphite_snap.specs.Sound.{IsLinkIn, IsSound}
 use Rattle.graphite_snap.specs.Description.{Description, seen_at, meaning, zero_at, number_alone}
@@ -61,7 +61,7 @@ module _ {S M : Type 0} (program : Description S M) (graph : PlainGraph) (steps 
   -- an equation of what is printed of the state of each vertex that is alive
   pub said : (equation : ℕ → ℕ → Option ℕ → Type 0)
       → ((v t : ℕ) → vertex_is_alive graph v t ≡ true → (s : S) → state_after program.plan (seen_at program graph t) steps v ≡ Some s → equation v t (program.printed s))
-      → AreSaid graph equation values
+      → MeetEquation graph equation values
   said equation holds v t within alive =
       let outcome = some_of (after program.plan (seen_at program graph t) steps v) (after-some program.plan (seen_at program graph t) steps v ∙ ap is_some (begins_at program.start graph program.ask v t alive)) in
       let state = ap state_of outcome.1 in

@@ -49,6 +49,6 @@ abbrev pub IsSnapAnswer : PlainGraph → SnapQuery → ℕ → List (List (Piece
 IsSnapAnswer graph query steps values made calls = IsAnswer (meaning_of query) graph steps values made calls
 
 -- at each instant of a vertex's life there is a value, and it is the one that the equation says
-abbrev pub AreSaid : PlainGraph → ((v t : ℕ) → Option ℕ → Type 0) → List (List (Piece (Option ℕ))) → Type 0
-AreSaid graph equation values =
+abbrev pub MeetEquation : PlainGraph → ((v t : ℕ) → Option ℕ → Type 0) → List (List (Piece (Option ℕ))) → Type 0
+MeetEquation graph equation values =
     (v t : ℕ) → v < length graph.vertices → vertex_is_alive graph v t ≡ true → IsSomeAnd (value_at (slice_index_or values v []) t) (equation v t)

@@ -47,7 +47,8 @@ bfs source = record {
   printed = λ state. state;
 }
 
--- in plain words: the least number of edges of a walk of fewer than so many edges from the source, at the instant
+-- In plain words: the least number of edges of a walk of fewer than so many edges from the source, at the instant. Where the
+-- source is not alive no edge leads out of it, since an edge lives within the lives of its ends.
 abbrev pub bfs_equation : ℕ → PlainGraph → (steps v t : ℕ) → Option ℕ → Type 0
 bfs_equation source graph steps v t value =
     IsLeast (λ n. (walk : List Link) × IsWalk (links_at graph t) source walk v × (length walk ≡ n) × (n < steps)) value

@@ -43,7 +43,8 @@ distance source = record {
   printed = λ state. state;
 }
 
--- in plain words: the least sum of the costs of a walk of fewer than so many edges from the source, at the instant
+-- In plain words: the least sum of the costs of a walk of fewer than so many edges from the source, at the instant. Where the
+-- source is not alive no edge leads out of it, since an edge lives within the lives of its ends.
 abbrev pub distance_equation : ℕ → PlainGraph → (steps v t : ℕ) → Option ℕ → Type 0
 distance_equation source graph steps v t value =
     IsLeast (λ sum. (walk : List Link) × IsWalk (links_at graph t) source walk v × (length walk < steps) × (sum_by (λ link. link.cost) walk ≡ sum)) value

@@ -1,4 +1,4 @@
--- The greatest value of a property over the vertices from which edges lead to a vertex.
+-- The greatest value of a property over the vertices from which a walk leads to a vertex, itself among them.
 use Rattle.std.specs.Prelude.{◌≡◌, ℕ, ◌==◌, nat_lt, true, false, if◌then◌else◌, is_some, List, Option, None, Some}
 use Rattle.std.specs.Option.{option_cmp}
 use Rattle.std.specs.Ordering.{nat_cmp}

@@ -4,7 +4,7 @@ ghost use Rattle.std.specs.List.Sorted.{IsSorted};
 ghost use Rattle.std.specs.Ordering.{nat_cmp};
 ghost use Rattle.graphite_api.specs.declared.TheConstants.{STEP_LIMIT};
 ghost use Rattle.graphite_api.specs.Rules.{point_rules};
-ghost use Rattle.graphite_snap.specs.Answers.{IsAnswer, AreSaid};
+ghost use Rattle.graphite_snap.specs.Answers.{IsAnswer, MeetEquation};
 ghost use Rattle.graphite_snap.specs.Bfs.{bfs, bfs_equation, bfs_next, bfs_plan};
 ghost use Rattle.graphite_snap.specs.Description.{meaning};
 
@@ -137,7 +137,7 @@ pub(crate) fn bfs_of(
     requires few { steps ≤ STEP_LIMIT }
     ensures answer { IfOk result (λ answer. IsAnswer (meaning (bfs source)) graph.now steps
         answer.values.items answer.made answer.calls) }
-    ensures equation { IfOk result (λ answer. AreSaid graph.now
+    ensures equation { IfOk result (λ answer. MeetEquation graph.now
         (bfs_equation source graph.now steps) answer.values.items) }
 {
     answer_of(alloc, graph, &Search { source }, steps)

@@ -4,7 +4,7 @@ ghost use Rattle.std.specs.List.Sorted.{IsSorted};
 ghost use Rattle.std.specs.Ordering.{nat_cmp};
 ghost use Rattle.graphite_api.specs.declared.TheConstants.{STEP_LIMIT};
 ghost use Rattle.graphite_api.specs.Rules.{point_rules};
-ghost use Rattle.graphite_snap.specs.Answers.{IsAnswer, AreSaid};
+ghost use Rattle.graphite_snap.specs.Answers.{IsAnswer, MeetEquation};
 ghost use Rattle.graphite_snap.specs.Description.{meaning};
 ghost use Rattle.graphite_snap.specs.Components.{components, components_next, components_plan, components_equation};
 
@@ -129,7 +129,7 @@ pub(crate) fn components_of(
     requires few { steps ≤ STEP_LIMIT }
     ensures answer { IfOk result (λ answer. IsAnswer (meaning components) graph.now steps
         answer.values.items answer.made answer.calls) }
-    ensures equation { IfOk result (λ answer. AreSaid graph.now
+    ensures equation { IfOk result (λ answer. MeetEquation graph.now
         (components_equation graph.now steps) answer.values.items) }
 {
     answer_of(alloc, graph, &AllComponents, steps)

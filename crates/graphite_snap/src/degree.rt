@@ -1,6 +1,6 @@
 //! The out-degree of each vertex, which makes no superstep.
 ghost use Rattle.std.specs.Prelude.{◌≡◌, ℕ, IfOk};
-ghost use Rattle.graphite_snap.specs.Answers.{IsAnswer, AreSaid};
+ghost use Rattle.graphite_snap.specs.Answers.{IsAnswer, MeetEquation};
 ghost use Rattle.graphite_snap.specs.Degree.{degree, degree_equation};
 
 use crate::SnapAnswer;
@@ -13,7 +13,7 @@ use std::alloc::Global;
 pub(crate) fn degrees(alloc: Global, graph: &Graph<'_>) -> Result<SnapAnswer, NoMemory>
     ensures answer { IfOk result (λ answer. (steps : ℕ) → IsAnswer degree graph.now steps
         answer.values.items answer.made answer.calls) }
-    ensures equation { IfOk result (λ answer. (steps : ℕ) → AreSaid graph.now
+    ensures equation { IfOk result (λ answer. (steps : ℕ) → MeetEquation graph.now
         (degree_equation graph.now steps) answer.values.items) }
 {
     let ask = Ask {

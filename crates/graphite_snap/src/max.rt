@@ -4,7 +4,7 @@ ghost use Rattle.std.specs.List.Sorted.{IsSorted};
 ghost use Rattle.std.specs.Ordering.{nat_cmp};
 ghost use Rattle.graphite_api.specs.declared.TheConstants.{STEP_LIMIT};
 ghost use Rattle.graphite_api.specs.Rules.{point_rules};
-ghost use Rattle.graphite_snap.specs.Answers.{IsAnswer, AreSaid};
+ghost use Rattle.graphite_snap.specs.Answers.{IsAnswer, MeetEquation};
 ghost use Rattle.graphite_snap.specs.Description.{meaning};
 ghost use Rattle.graphite_snap.specs.Max.{max_of, max_next, max_plan, max_equation, raised};
 
@@ -19,7 +19,7 @@ use graphite_time::{Interval, NoMemory};
 use std::alloc::Global;
 use std::marker::Model;
 
-/// The greatest value of a property: for each vertex over all vertices from which edges lead to it,
+/// The greatest value of a property: for each vertex over all vertices from which a walk leads to it,
 /// itself among them, by vertices that start with their own values.
 #[derive(Drop)]
 pub struct Max {
@@ -134,7 +134,7 @@ pub(crate) fn greatest_values(
     requires few { steps ≤ STEP_LIMIT }
     ensures answer { IfOk result (λ answer. IsAnswer (meaning (max_of key.now)) graph.now steps
         answer.values.items answer.made answer.calls) }
-    ensures equation { IfOk result (λ answer. AreSaid graph.now
+    ensures equation { IfOk result (λ answer. MeetEquation graph.now
         (max_equation key.now graph.now steps) answer.values.items) }
 {
     answer_of(alloc, graph, &Greatest { key }, steps)

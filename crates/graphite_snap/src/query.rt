@@ -11,8 +11,8 @@ pub enum SnapQuery {
     Bfs(u32),
     /// The least number of a vertex that is connected with each vertex.
     Components,
-    /// The greatest value of the property with this key over the vertices from which edges lead to each
-    /// vertex.
+    /// The greatest value of the property with this key over the vertices from which a walk leads to each
+    /// vertex, itself among them.
     Max(Bytes),
     /// The least cost of a walk from the vertex with this number.
     Distance(u32),

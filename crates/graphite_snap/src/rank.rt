@@ -2,7 +2,7 @@
 ghost use Rattle.std.specs.Prelude.{◌≡◌, ◌<◌, ◌≤◌, ◌/◌, ◌^◌, true, refl, sum, IfOk};
 ghost use Rattle.graphite_api.specs.declared.TheConstants.{STEP_LIMIT};
 ghost use Rattle.graphite_api.specs.Rules.{point_rules};
-ghost use Rattle.graphite_snap.specs.Answers.{IsAnswer, AreSaid};
+ghost use Rattle.graphite_snap.specs.Answers.{IsAnswer, MeetEquation};
 ghost use Rattle.graphite_snap.specs.Description.{meaning};
 ghost use Rattle.graphite_snap.specs.Rank.{rank, rank_equation, rank_of, rank_next, rank_note, rank_plan};
 ghost use Rattle.graphite_snap.specs.declared.rank.TheConstants.{SCALE};
@@ -128,7 +128,7 @@ pub(crate) fn ranks_of(alloc: Global, graph: &Graph<'_>, steps: u32) -> Result<S
     requires few { steps ≤ STEP_LIMIT }
     ensures answer { IfOk result (λ answer. IsAnswer (meaning rank) graph.now steps
         answer.values.items answer.made answer.calls) }
-    ensures equation { IfOk result (λ answer. AreSaid graph.now
+    ensures equation { IfOk result (λ answer. MeetEquation graph.now
         (rank_equation graph.now steps) answer.values.items) }
 {
     answer_of(alloc, graph, &AllRanks, steps)

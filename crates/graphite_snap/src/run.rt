@@ -1,7 +1,7 @@
 //! The programs of snapshots on a graph.
 ghost use Rattle.std.specs.Prelude.{◌≡◌, ◌≤◌, IfOk};
 ghost use Rattle.graphite_api.specs.declared.TheConstants.{STEP_LIMIT};
-ghost use Rattle.graphite_snap.specs.Answers.{equation_of, AreSaid, IsAsked, IsSnapAnswer};
+ghost use Rattle.graphite_snap.specs.Answers.{equation_of, MeetEquation, IsAsked, IsSnapAnswer};
 
 use crate::SnapQuery;
 use crate::bfs::bfs_of;
@@ -41,7 +41,7 @@ pub fn run_snap(
     requires few { steps ≤ STEP_LIMIT }
     ensures answer { IfOk result (λ answer. IsSnapAnswer graph.now query.now steps
         answer.values.items answer.made answer.calls) }
-    ensures equation { IfOk result (λ answer. AreSaid graph.now
+    ensures equation { IfOk result (λ answer. MeetEquation graph.now
         (equation_of query.now graph.now steps) answer.values.items) }
 {
     match query {

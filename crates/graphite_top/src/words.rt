@@ -16,7 +16,8 @@ pub enum Command {
     Bfs,
     /// The least number of a vertex that is connected with each vertex.
     Components,
-    /// The greatest value of a property over the vertices from which edges lead to each vertex.
+    /// The greatest value of a property over the vertices from which a walk leads to each vertex, itself
+    /// among them.
     Max,
     /// The least cost of a walk from a vertex.
     Distance,
@@ -213,6 +214,7 @@ fn with_option<'w>(option: &str, value: &'w str, options: Options<'w>) -> Option
     None
 }
 
+/// The options with this source too. `None` where one was given before.
 fn with_source<'w>(value: &'w [u8], options: Options<'w>) -> Option<Options<'w>>
     ensures { option_map plain_options result ≡ with_source value.now (plain_options options.entry) }
 {
@@ -225,6 +227,7 @@ fn with_source<'w>(value: &'w [u8], options: Options<'w>) -> Option<Options<'w>>
     })
 }
 
+/// The options with this key too. `None` where one was given before.
 fn with_key<'w>(value: &'w [u8], options: Options<'w>) -> Option<Options<'w>>
     ensures { option_map plain_options result ≡ with_key value.now (plain_options options.entry) }
 {
@@ -237,6 +240,8 @@ fn with_key<'w>(value: &'w [u8], options: Options<'w>) -> Option<Options<'w>>
     })
 }
 
+/// The options with this number of supersteps too. `None` where one was given before, or the value is
+/// no such number.
 fn with_steps<'w>(value: &[u8], options: Options<'w>) -> Option<Options<'w>>
     ensures { option_map plain_options result ≡ with_steps value.now (plain_options options.entry) }
 {

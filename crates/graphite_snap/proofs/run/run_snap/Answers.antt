@@ -1,6 +1,6 @@
 use Rattle.std.proofs.Common.{sym, subst}
 use Rattle.std.proofs.lemmas.Result.{IfOk-weaker}
-use Rattle.graphite_snap.specs.Answers.{equation_of, AreSaid, IsSnapAnswer}
+use Rattle.graphite_snap.specs.Answers.{equation_of, MeetEquation, IsSnapAnswer}
 use Rattle.graphite_snap.proofs.run.run_snap.Goals as goal
 
 pub returns-in-Degree-clause-answer : goal.returns-in-Degree-clause-answer
@@ -12,5 +12,5 @@ returns-in-Degree-clause-answer c =
 pub returns-in-Degree-clause-equation : goal.returns-in-Degree-clause-equation
 returns-in-Degree-clause-equation c =
     IfOk-weaker c.degrees.result _ _
-    (λ answer all. subst (λ query. AreSaid c.args.graph.now (equation_of query c.args.graph.now c.args.steps) answer.values.items) (sym c.in-Degree.is) (all c.args.steps))
+    (λ answer all. subst (λ query. MeetEquation c.args.graph.now (equation_of query c.args.graph.now c.args.steps) answer.values.items) (sym c.in-Degree.is) (all c.args.steps))
     c.degrees.ensures.equation
