@@ -1,5 +1,5 @@
 //! Intervals of instants, and what two of them have in common.
-ghost use Rattle.std.specs.Prelude.{◌≡◌, ◌<◌, ◌≤◌, ◌↔◌, ◌&&◌, ℕ, false, IsSome, IfSome, IfNone};
+ghost use Rattle.std.specs.Prelude.{◌≡◌, ◌<◌, ◌≤◌, ◌↔◌, ◌&&◌, ◌+◌, ℕ, false, min, IsSome, IfSome, IfNone};
 ghost use Rattle.graphite_time.specs.declared.TheConstants.{LAST};
 
 use crate::LAST;
@@ -69,5 +69,72 @@ impl Interval {
         ensures meet { result ≡ meet_of self other }
     {
         Interval::new(self.a.max(other.a), self.b.min(other.b))
+    }
+
+    /// The interval `by` instants later, as far as it lies below the horizon `h`, which is at most
+    /// [`LAST`]. `None` exactly where it begins at `h` or after it.
+    pub fn shift(self, by: u32, h: u64) -> Option<Interval>
+        requires { h ≤ LAST }
+        ensures below { IsSome result ↔ (start_of self + by < h) }
+        ensures start { IfSome result (λ over. start_of over ≡ start_of self + by) }
+        ensures end { IfSome result (λ over. end_of over ≡ min (end_of self + by) h) }
+    {
+        let by = by as u64;
+        Interval::new(self.a + by, h.min(self.b + by))
+    }
+
+    /// The interval `by` instants earlier. `None` exactly where it would begin before the first
+    /// instant.
+    pub fn back(self, by: u32) -> Option<Interval>
+        ensures within { IsSome result ↔ (by ≤ start_of self) }
+        ensures start { IfSome result (λ over. start_of over + by ≡ start_of self) }
+        ensures end { IfSome result (λ over. end_of over + by ≡ end_of self) }
+    {
+        let by = by as u64;
+        if by > self.a {
+            return None;
+        }
+        Interval::new(self.a - by, self.b - by)
+    }
+}
+
+#[cfg(test)]
+mod tests {
+    use super::*;
+    use std::process::Abort;
+
+    fn ends(over: Option<Interval>) -> Option<(u64, u64)> {
+        let over = over?;
+        Some((over.a(), over.b()))
+    }
+
+    fn assert_shifted(
+        rt: &impl Abort,
+        a: u64,
+        b: u64,
+        by: u32,
+        h: u64,
+        shifted: Option<(u64, u64)>,
+    ) {
+        if h <= LAST
+            && let Some(over) = Interval::new(a, b)
+        {
+            assert_eq!(rt; ends(over.shift(by, h)), shifted);
+        }
+    }
+
+    fn assert_back(rt: &impl Abort, a: u64, b: u64, by: u32, earlier: Option<(u64, u64)>) {
+        if let Some(over) = Interval::new(a, b) {
+            assert_eq!(rt; ends(over.back(by)), earlier);
+        }
+    }
+
+    #[test]
+    fn intervals_move_over_time(rt: HostRuntime) {
+        assert_shifted(&rt, 0, 5, 9, 20, Some((9, 14)));
+        assert_shifted(&rt, 5, 10, 1, 10, Some((6, 10)));
+        assert_shifted(&rt, 9, 10, 1, 10, None);
+        assert_back(&rt, 9, 14, 9, Some((0, 5)));
+        assert_back(&rt, 3, 5, 4, None);
     }
 }
