@@ -3,10 +3,14 @@
 #![tactic(auto)]
 
 mod arc;
+mod duration;
 mod groups;
 mod instant;
+mod journey_program;
+mod kind;
 mod laws;
 mod next;
+mod path_query;
 mod plain_run;
 mod point_program;
 mod program;
@@ -14,9 +18,13 @@ mod ran_at;
 mod table;
 
 pub use arc::Arc;
+pub use duration::Duration;
 pub use graphite_warp::Message;
+pub use journey_program::JourneyProgram;
+pub use kind::Kind;
 pub use laws::{both_ends_tell, early_stop_changes_nothing, going_on_is_one_run, silence_lasts};
 pub use next::Next;
+pub use path_query::PathQuery;
 pub use plain_run::run_at;
 pub use point_program::PointProgram;
 pub use program::Program;
