@@ -1,8 +1,11 @@
+pub mod BestLemmas
 pub mod CallLemmas
 pub mod Examples
 pub mod InstantLemmas
 pub mod MadeLemmas
+pub mod MemberLemmas
 pub mod OutcomeLemmas
 pub mod RangeLemmas
 pub mod SuperstepLemmas
 pub mod TableLemmas
+pub mod WaitLemmas

@@ -13,9 +13,11 @@ use Rattle.graphite_api.specs.Rules.{point_rules, idle, outcome_with, outcome_at
 use Rattle.graphite_api.specs.Supersteps.{note_along, group_of, after, state_after}
 use Rattle.graphite_api.proofs.SuperstepLemmas.{after-some}
 use Rattle.graphite_snap.specs.Walk.{IsWalk}
-use Rattle.graphite_snap.specs.Best.{IsBest}
+use Rattle.graphite_api.specs.Best.{IsBest}
+use Rattle.graphite_api.proofs.BestLemmas.{IsBest-other, IsBest-at, IsBest-is}
 use Rattle.graphite_snap.specs.Sound.{IsLinkIn, IsSound}
-use Rattle.graphite_snap.proofs.MemberLemmas.{Contains-nil, Contains-group, group-Contains}
+use Rattle.graphite_snap.proofs.MemberLemmas.{Contains-group, group-Contains}
+use Rattle.graphite_api.proofs.MemberLemmas.{Contains-nil}
 
 -- What superstep k leaves of a value, given a group, and whether the vertex sends: the best of the old value and the
 -- group, which is new only where it sends. Held says of a value that a vertex may have it after k supersteps, and
@@ -54,23 +56,6 @@ pub record IsCarried {S : Type 0} (value : S → Option ℕ) (carried : Link →
   pub short : length walk < k
   pub starts : option_and_then value (g.start from) ≡ Some begun
   pub is : carry carried begun walk ≡ x
-
--- the best of some values is the best of others, of which each of them is one, and each has one of them as good as it
-pub IsBest-other : {X : Type 0} (AsGood : X → X → Type 0) (P Q : X → Type 0) (o : Option X) → ((x y z : X) → AsGood x y → AsGood y z → AsGood x z) → ((x : X) → Q x → P x) → ((y : X) → P y → (x : X) × Q x × AsGood x y) → IsBest AsGood Q o → IsBest AsGood P o
-IsBest-other AsGood P Q None through are reach best = λ y h. let x = reach y h in best x.0 x.1
-IsBest-other AsGood P Q (Some b) through are reach best = (
-  are b best.0,
-  λ y h. let x = reach y h in through b x.0 y (best.1 x.0 x.1) x.2,
-)
-
--- where there is a value, the best one is as good as it
-pub IsBest-at : {X : Type 0} (AsGood : X → X → Type 0) (P : X → Type 0) (o : Option X) (y : X) → P y → IsBest AsGood P o → (x : X) × (o ≡ Some x) × AsGood x y
-IsBest-at AsGood P None y h best = absurd (best y h)
-IsBest-at AsGood P (Some x) y h best = (x, refl, best.1 y h)
-
--- the best one is one of them
-pub IsBest-is : {X : Type 0} (AsGood : X → X → Type 0) (P : X → Type 0) (o : Option X) (x : X) → o ≡ Some x → IsBest AsGood P o → P x
-IsBest-is AsGood P o x is best = (subst (IsBest AsGood P) is best).0
 
 -- a vertex takes the best of what it is told, where that is as good as its own value, and sends
 pub taken : (AsGood : ℕ → ℕ → Type 0) (carried : Link → ℕ → ℕ) (Held Told : ℕ → ℕ → Type 0) (k : ℕ) (old : Option ℕ) (group : List ℕ) (note : ℕ) → IsBest AsGood (Contains group) (Some note) → ForSome old (λ x. AsGood note x) → Held k note → ((link : Link) → Told k (carried link note)) → IsBetter AsGood carried Held Told k old group (Some note) true

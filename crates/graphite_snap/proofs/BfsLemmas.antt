@@ -9,12 +9,13 @@ use Rattle.graphite_api.specs.declared.next.Next.{Next}
 use Rattle.graphite_api.specs.Snapshot.{Link, Snapshot}
 use Rattle.graphite_api.specs.Supersteps.{state_after}
 use Rattle.graphite_snap.specs.Walk.{IsWalk}
-use Rattle.graphite_snap.specs.Best.{IsLeast}
+use Rattle.graphite_api.specs.Best.{IsLeast}
 use Rattle.graphite_snap.specs.Sound.{IsSound}
 use Rattle.graphite_snap.specs.Least.{least}
 use Rattle.graphite_snap.specs.Bfs.{told, bfs_next, one_more, bfs_plan}
 use Rattle.graphite_snap.proofs.LeastLemmas.{least-best}
-use Rattle.graphite_snap.proofs.BestLemmas.{IsBetter, IsImproving, IsCarried, IsBest-other, carry, not_first, best_after}
+use Rattle.graphite_snap.proofs.BestLemmas.{IsBetter, IsImproving, IsCarried, carry, not_first, best_after}
+use Rattle.graphite_api.proofs.BestLemmas.{IsBest-other}
 
 -- the greatest number that a vertex may have
 abbrev top : ℕ

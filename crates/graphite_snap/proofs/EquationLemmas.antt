@@ -10,13 +10,14 @@ use Rattle.graphite_api.specs.declared.next.Next.{Next}
 use Rattle.graphite_api.specs.Snapshot.{Link, Snapshot}
 use Rattle.graphite_api.specs.Supersteps.{state_after}
 use Rattle.graphite_snap.specs.Walk.{IsWalk, IsReached}
-use Rattle.graphite_snap.specs.Best.{IsBest, IsLeast, IsGreatest}
+use Rattle.graphite_api.specs.Best.{IsBest, IsLeast, IsGreatest}
 use Rattle.graphite_snap.specs.Sound.{IsLinkIn, IsSound}
 use Rattle.graphite_snap.specs.Max.{raised, max_plan}
 use Rattle.graphite_snap.specs.Components.{lowered, components_plan}
 use Rattle.graphite_snap.specs.Distance.{cheapened, distance_plan}
 use Rattle.graphite_snap.proofs.LeastLemmas.{least-best, greatest-best}
-use Rattle.graphite_snap.proofs.BestLemmas.{IsBetter, IsImproving, IsCarried, carry, IsBest-other, taken, left, not_first, best_after}
+use Rattle.graphite_snap.proofs.BestLemmas.{IsBetter, IsImproving, IsCarried, carry, taken, left, not_first, best_after}
+use Rattle.graphite_api.proofs.BestLemmas.{IsBest-other}
 
 -- these programs need no bounds on what a vertex may have or be told
 abbrev Anything : ℕ → ℕ → Type 0

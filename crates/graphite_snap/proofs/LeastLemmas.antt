@@ -2,9 +2,9 @@
 use Rattle.std.proofs.Common.{◌≡◌, refl, ℕ, ◌<◌, ◌≤◌, min, max, fold, List, [], ◌∷◌, arith, ⊎_elim}
 use Rattle.std.specs.List.{Contains}
 use Rattle.std.proofs.lemmas.Bool.{cases_lt}
-use Rattle.graphite_snap.specs.Best.{IsLeast, IsGreatest}
+use Rattle.graphite_api.specs.Best.{IsLeast, IsGreatest}
 use Rattle.graphite_snap.specs.Least.{least, greatest}
-use Rattle.graphite_snap.proofs.MemberLemmas.{Contains-first, Contains-later, Contains-cases, Contains-nil}
+use Rattle.graphite_api.proofs.MemberLemmas.{Contains-first, Contains-later, Contains-cases, Contains-nil}
 
 fold_min-Contains : (a : ℕ) (xs : List ℕ) → Contains (a ∷ xs) (fold min a xs)
 fold_min-Contains a [] = Contains-first a a [] refl

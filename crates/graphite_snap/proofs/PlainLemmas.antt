@@ -29,7 +29,8 @@ use Rattle.graphite_snap.specs.declared.rank.TheConstants.{SCALE}
 use Rattle.graphite_snap.specs.declared.rank_state.RankState.{RankState}
 use Rattle.graphite_snap.proofs.RankLemmas.{ranks_are}
 use Rattle.graphite_snap.proofs.RankStateLemmas.{state_with-fields, state_with-some}
-use Rattle.graphite_snap.proofs.BestLemmas.{IsBest-other, some_of}
+use Rattle.graphite_snap.proofs.BestLemmas.{some_of}
+use Rattle.graphite_api.proofs.BestLemmas.{IsBest-other}
 use Rattle.graphite_snap.proofs.EquationLemmas.{max_best, components_best, distance_best}
 use Rattle.graphite_snap.proofs.BfsLemmas.{bfs_best}
 

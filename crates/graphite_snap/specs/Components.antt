@@ -6,7 +6,7 @@ use Rattle.graphite_api.specs.declared.next.Next.{Next}
 use Rattle.graphite_api.specs.Plan.{Plan}
 use Rattle.graphite_hops.specs.declared.direction.Direction.TheVariants.{Both}
 use Rattle.graphite_hops.specs.Links.{links_at, links_in}
-use Rattle.graphite_snap.specs.Best.{IsLeast}
+use Rattle.graphite_api.specs.Best.{IsLeast}
 use Rattle.graphite_snap.specs.Description.{Description, number_alone}
 use Rattle.graphite_snap.specs.Least.{least}
 use Rattle.graphite_snap.specs.Walk.{IsReached}

@@ -8,7 +8,7 @@ use Rattle.graphite_api.specs.Plan.{Plan}
 use Rattle.graphite_api.specs.Snapshot.{Link}
 use Rattle.graphite_hops.specs.declared.direction.Direction.TheVariants.{Out}
 use Rattle.graphite_hops.specs.Links.{links_at}
-use Rattle.graphite_snap.specs.Best.{IsLeast}
+use Rattle.graphite_api.specs.Best.{IsLeast}
 use Rattle.graphite_snap.specs.Description.{Description, number_alone, zero_at}
 use Rattle.graphite_snap.specs.Least.{least}
 use Rattle.graphite_snap.specs.Walk.{IsWalk}

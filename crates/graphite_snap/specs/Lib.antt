@@ -1,5 +1,4 @@
 pub mod Least
-pub mod Best
 pub mod Walk
 pub mod Sound
 pub mod Description

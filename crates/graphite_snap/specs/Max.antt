@@ -8,7 +8,7 @@ use Rattle.graphite_api.specs.declared.next.Next.{Next}
 use Rattle.graphite_api.specs.Plan.{Plan}
 use Rattle.graphite_hops.specs.declared.direction.Direction.TheVariants.{Out}
 use Rattle.graphite_hops.specs.Links.{links_at}
-use Rattle.graphite_snap.specs.Best.{IsGreatest}
+use Rattle.graphite_api.specs.Best.{IsGreatest}
 use Rattle.graphite_snap.specs.Description.{Description}
 use Rattle.graphite_snap.specs.Least.{greatest}
 use Rattle.graphite_snap.specs.Walk.{IsReached}
