@@ -1,0 +1,50 @@
+//! What the programs share of which the lesser value is the better one.
+ghost use Rattle.std.specs.Prelude.{◌≡◌, ◌+◌, ◌^◌, ◌<◌, nat_le, option_map};
+ghost use Rattle.std.specs.List.Sorted.{IsSorted};
+ghost use Rattle.std.specs.Ordering.{nat_cmp};
+ghost use Rattle.graphite_time.specs.Interval.{start_of};
+ghost use Rattle.graphite_api.specs.Values.{best_next, rest_from};
+
+use graphite_api::{Arc, Message, Next};
+use graphite_time::Interval;
+
+/// What a vertex has after a superstep: in the first one its value, which it sends; later the least of
+/// its value and the group, which it sends where that is news.
+pub(crate) fn least_next(step: u32, state: Option<u64>, group: &[u64]) -> Next<Option<u64>>
+    requires rising { IsSorted nat_cmp group.now }
+    ensures { result ≡ best_next nat_le step state group.now }
+{
+    if step == 1 {
+        return Next {
+            state,
+            send: state.is_some(),
+        };
+    }
+    // the group rises, so its first note is the least
+    let Some(told) = group.first().copied() else {
+        return Next { state, send: false };
+    };
+    if let Some(own) = state
+        && own <= told
+    {
+        return Next { state, send: false };
+    }
+    Next {
+        state: Some(told),
+        send: true,
+    }
+}
+
+/// A note from the arrival of the first departure on, up to the end of the lifespan that the arc names.
+/// Nothing where that lifespan does not hold the arrival.
+pub(crate) fn note_on_arrival(arc: &Arc, over: Interval, note: u64) -> Option<Message<u64>>
+    ensures { result ≡ option_map (λ rest. record { over = rest; note = note })
+        (rest_from arc.now.stay (start_of over + arc.now.time)) }
+{
+    let arrival = over.a() + u64::from(arc.time);
+    if !arc.stay.holds(arrival) {
+        return None;
+    }
+    let rest = Interval::new(arrival, arc.stay.b())?;
+    Some(Message { over: rest, note })
+}

@@ -1,0 +1,14 @@
+//! Programs of journeys: which vertices are reached from a source, how early, and how cheaply.
+#![tactic(auto)]
+
+mod cheapest;
+mod earliest;
+mod least;
+mod reach;
+
+pub use cheapest::Cheapest;
+pub use earliest::Earliest;
+pub use reach::Reach;
+
+#[cfg(test)]
+mod tests;
