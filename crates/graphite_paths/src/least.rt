@@ -1,9 +1,10 @@
 //! What the programs share of which the lesser value is the better one.
-ghost use Rattle.std.specs.Prelude.{◌≡◌, ◌+◌, ◌^◌, ◌<◌, nat_le, option_map};
+ghost use Rattle.std.specs.Prelude.{◌≡◌, ◌+◌, nat_le, slice_get, option_map};
 ghost use Rattle.std.specs.List.Sorted.{IsSorted};
 ghost use Rattle.std.specs.Ordering.{nat_cmp};
 ghost use Rattle.graphite_time.specs.Interval.{start_of};
 ghost use Rattle.graphite_api.specs.Values.{best_next, rest_from};
+ghost use Rattle.graphite_paths.specs.Least.{lowered};
 
 use graphite_api::{Arc, Message, Next};
 use graphite_time::Interval;
@@ -21,7 +22,21 @@ pub(crate) fn least_next(step: u32, state: Option<u64>, group: &[u64]) -> Next<O
         };
     }
     // the group rises, so its first note is the least
-    let Some(told) = group.first().copied() else {
+    lowered(state, first_of(group))
+}
+
+/// The first note of a group, if there is one.
+fn first_of(group: &[u64]) -> Option<u64>
+    ensures { result ≡ slice_get group.now 0 }
+{
+    group.first().copied()
+}
+
+/// The lesser of the value that a vertex has and one that it is told, which it sends where it is news.
+fn lowered(state: Option<u64>, told: Option<u64>) -> Next<Option<u64>>
+    ensures { result ≡ lowered state told }
+{
+    let Some(told) = told else {
         return Next { state, send: false };
     };
     if let Some(own) = state
@@ -41,10 +56,16 @@ pub(crate) fn note_on_arrival(arc: &Arc, over: Interval, note: u64) -> Option<Me
     ensures { result ≡ option_map (λ rest. record { over = rest; note = note })
         (rest_from arc.now.stay (start_of over + arc.now.time)) }
 {
-    let arrival = over.a() + u64::from(arc.time);
-    if !arc.stay.holds(arrival) {
+    let rest = rest_from(arc.stay, over.a() + u64::from(arc.time))?;
+    Some(Message { over: rest, note })
+}
+
+/// The instants of a lifespan from one of them on. `None` where it does not hold that one.
+fn rest_from(span: Interval, t: u64) -> Option<Interval>
+    ensures { result ≡ rest_from span t }
+{
+    if !span.holds(t) {
         return None;
     }
-    let rest = Interval::new(arrival, arc.stay.b())?;
-    Some(Message { over: rest, note })
+    Interval::new(t, span.b())
 }
