@@ -2,10 +2,12 @@ pub mod BestLemmas
 pub mod CallLemmas
 pub mod Examples
 pub mod InstantLemmas
+pub mod ListLemmas
 pub mod MadeLemmas
 pub mod MemberLemmas
 pub mod OutcomeLemmas
 pub mod RangeLemmas
 pub mod SuperstepLemmas
 pub mod TableLemmas
+pub mod ValuesLemmas
 pub mod WaitLemmas
