@@ -2,7 +2,9 @@ pub mod BestLemmas
 pub mod CallLemmas
 pub mod Examples
 pub mod InstantLemmas
+pub mod JourneyExamples
 pub mod ListLemmas
+pub mod ListedHops
 pub mod MadeLemmas
 pub mod MemberLemmas
 pub mod OutcomeLemmas
