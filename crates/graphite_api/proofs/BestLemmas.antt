@@ -1,5 +1,5 @@
 -- The best of the values that have a property.
-use Rattle.std.proofs.Common.{◌≡◌, refl, sym, ap, subst, Option, None, Some}
+use Rattle.std.proofs.Common.{◌≡◌, refl, ap, subst, Option, None, Some}
 use Rattle.graphite_api.specs.Best.{IsBest}
 
 -- the best of some values is the best of others, of which each of them is one, and each has one of them as good as it

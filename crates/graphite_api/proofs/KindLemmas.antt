@@ -1,9 +1,9 @@
 -- The values of each question about journeys meet the laws.
-use Rattle.std.proofs.Common.{◌≡◌, refl, sym, ap, ◌∙◌, ℕ, ◌<◌, ◌≤◌, ◌==◌, nat_le, nat_lt, min, ◌+◌, ◌-◌, ◌^◌, Bool, true, IsTrue, arith, inl, inr, ◌⊎◌, ⊎_elim}
+use Rattle.std.proofs.Common.{◌≡◌, refl, ℕ, ◌<◌, ◌≤◌, nat_le, min, ◌+◌, ◌-◌, ◌^◌, IsTrue, arith, inl, inr, ◌⊎◌, ⊎_elim}
 use Rattle.std.proofs.lemmas.Bool.{leb-true, le-leb, ltb-true, lt-ltb, eqb-true, cases_lt}
 use Rattle.graphite_api.specs.declared.kind.Kind.{Kind}
 use Rattle.graphite_api.specs.declared.kind.Kind.TheVariants.{Reach, Earliest, Cheapest, Fastest, Latest}
-use Rattle.graphite_api.specs.Values.{Values, AreLawful}
+use Rattle.graphite_api.specs.Values.{AreLawful}
 use Rattle.graphite_api.specs.KindValues.{reach_values, earliest_values, cheapest_values, fastest_values, values_of, saturating_values}
 
 le_through : (x y z : ℕ) → IsTrue (nat_le x y) → IsTrue (nat_le y z) → IsTrue (nat_le x z)

@@ -2,11 +2,15 @@ pub mod BestLemmas
 pub mod CallLemmas
 pub mod Examples
 pub mod InstantLemmas
+pub mod JourneyExamples
 pub mod KindLemmas
+pub mod ListLemmas
+pub mod ListedHops
 pub mod MadeLemmas
 pub mod MemberLemmas
 pub mod OutcomeLemmas
 pub mod RangeLemmas
 pub mod SuperstepLemmas
 pub mod TableLemmas
+pub mod ValuesLemmas
 pub mod WaitLemmas

@@ -1,7 +1,6 @@
 -- The mirror of time: the instant t becomes h - 1 - t, and every hop leads the other way. A latest departure is an
 -- earliest arrival there.
-use Rattle.std.specs.Prelude.{◌≡◌, ℕ, Bool, ◌+◌, ◌-◌, ◌<◌, ◌≤◌, IsTrue, List, map, reverse}
-use Rattle.graphite_api.specs.declared.kind.Kind.{Kind}
+use Rattle.std.specs.Prelude.{◌≡◌, ℕ, Bool, ◌+◌, ◌-◌, ◌<◌, IsTrue, List, map, reverse}
 use Rattle.graphite_api.specs.declared.kind.Kind.TheVariants.{Earliest}
 use Rattle.graphite_api.specs.declared.path_query.PathQuery.{PathQuery}
 use Rattle.graphite_api.specs.Hop.{Hop, arrival}
