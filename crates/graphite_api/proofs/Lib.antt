@@ -1,11 +1,13 @@
 pub mod BestLemmas
 pub mod CallLemmas
+pub mod DepartureLemmas
 pub mod Examples
 pub mod InstantLemmas
 pub mod MadeLemmas
 pub mod MemberLemmas
 pub mod OutcomeLemmas
 pub mod RangeLemmas
+pub mod StayLemmas
 pub mod SuperstepLemmas
 pub mod TableLemmas
 pub mod WaitLemmas
