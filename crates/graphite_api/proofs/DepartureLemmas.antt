@@ -1,6 +1,6 @@
 -- The message of the first departure: it stands wherever a later departure of its interval leads to, and is as good; and
 -- what it says is the value of a list of hops.
-use Rattle.std.proofs.Common.{◌≡◌, refl, sym, ◌∙◌, ap, subst, ℕ, ◌+◌, ◌<◌, ◌≤◌, true, IsTrue, List, ◌∷◌, All, Option, None, Some, option_map, arith}
+use Rattle.std.proofs.Common.{◌≡◌, refl, sym, ◌∙◌, ap, subst, ℕ, ◌+◌, ◌<◌, ◌≤◌, true, IsTrue, List, ◌∷◌, All, Option, Some, option_map, arith}
 use Rattle.std.specs.List.{Contains}
 use Rattle.std.proofs.lemmas.Bool.{cond-true}
 use Rattle.std.proofs.lemmas.Option.{same_Some}

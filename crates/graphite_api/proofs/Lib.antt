@@ -1,8 +1,10 @@
 pub mod BestLemmas
 pub mod CallLemmas
 pub mod DepartureLemmas
+pub mod EnoughLemmas
 pub mod Examples
 pub mod InstantLemmas
+pub mod LifespanLemmas
 pub mod MadeLemmas
 pub mod MemberLemmas
 pub mod OutcomeLemmas
