@@ -1,6 +1,6 @@
 -- The hops of a table of lives and arcs.
-use Rattle.std.specs.Prelude.{◌≡◌, ℕ, ◌+◌, ◌≤◌, IsTrue, List, Some}
-use Rattle.std.specs.List.{Contains}
+use Rattle.std.specs.Prelude.{◌≡◌, ℕ, ◌+◌, ◌≤◌, IsTrue, List, length, Some}
+use Rattle.std.specs.List.{Contains, sum_by}
 use Rattle.graphite_time.specs.declared.interval.Interval.{Interval}
 use Rattle.graphite_time.specs.Interval.{start_of, end_of, holds}
 use Rattle.graphite_time.specs.Life.{lifespan_at}
@@ -23,3 +23,7 @@ pub record IsHopOn (arcs : List Arc) (hop : Hop) : Type 0 where
 pub record StaysAt (lives : List (List Interval)) (arc : Arc) : Type 0 where
   pub lifespan : lifespan_at (life_of lives arc.to) (start_of arc.over + arc.time) ≡ Some arc.stay
   pub last : end_of arc.over + arc.time ≤ end_of arc.stay
+
+-- the number of the lifespans of all vertices
+abbrev pub lifespans : List (List Interval) → ℕ
+lifespans lives = sum_by (λ life. length life) lives
