@@ -2,6 +2,8 @@ pub mod BestLemmas
 pub mod CallLemmas
 pub mod Examples
 pub mod InstantLemmas
+pub mod JourneyLemmas
+pub mod KindLemmas
 pub mod MadeLemmas
 pub mod MemberLemmas
 pub mod OutcomeLemmas

@@ -6,6 +6,7 @@ pub mod Calls
 pub mod Duration
 pub mod Hop
 pub mod Journey
+pub mod KindValues
 pub mod Mirror
 pub mod Outcomes
 pub mod Plan
