@@ -1,5 +1,6 @@
 pub mod BestLemmas
 pub mod CallLemmas
+pub mod CrossingLemmas
 pub mod Examples
 pub mod InstantLemmas
 pub mod JourneyLemmas
