@@ -9,6 +9,7 @@ pub mod MadeLemmas
 pub mod MemberLemmas
 pub mod OutcomeLemmas
 pub mod RangeLemmas
+pub mod SaturatingLemmas
 pub mod SuperstepLemmas
 pub mod TableLemmas
 pub mod WaitLemmas
