@@ -7,9 +7,11 @@ pub mod JourneyLemmas
 pub mod KindLemmas
 pub mod MadeLemmas
 pub mod MemberLemmas
+pub mod MirrorLemmas
 pub mod OutcomeLemmas
 pub mod RangeLemmas
 pub mod SaturatingLemmas
 pub mod SuperstepLemmas
 pub mod TableLemmas
 pub mod WaitLemmas
+pub mod WrittenLemmas
