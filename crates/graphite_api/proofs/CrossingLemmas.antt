@@ -1,13 +1,11 @@
 -- Crossing: the best value of the lists of hops, their last hop first, is the best value of the journeys.
-use Rattle.std.proofs.Common.{◌≡◌, ◌≢◌, refl, sym, ap, subst, ◌∙◌, ℕ, suc, ◌+◌, ◌<◌, ◌≤◌, Bool, IsTrue, List, [], ◌∷◌, ◌++◌, length, reverse, Option, Some, None, arith}
+use Rattle.std.proofs.Common.{◌≡◌, ◌≢◌, refl, sym, ap, subst, ◌∙◌, ℕ, suc, ◌<◌, ◌≤◌, Bool, IsTrue, List, [], ◌∷◌, length, reverse, Option, arith}
 use Rattle.std.proofs.lemmas.List.{reverse-reverse, length-reverse}
-use Rattle.graphite_api.specs.declared.kind.Kind.{Kind}
 use Rattle.graphite_api.specs.declared.kind.Kind.TheVariants.{Latest}
 use Rattle.graphite_api.specs.declared.path_query.PathQuery.{PathQuery}
 use Rattle.graphite_api.specs.Best.{IsBest}
-use Rattle.graphite_api.specs.Hop.{Hop, arrival, Waits}
+use Rattle.graphite_api.specs.Hop.{Hop}
 use Rattle.graphite_api.specs.Journey.{IsJourney, IsAsGood, journey_value, IsValueWithin, IsBestWithin, IsBestOverAll}
-use Rattle.graphite_api.specs.Values.{Values}
 use Rattle.graphite_api.specs.KindValues.{values_of}
 use Rattle.graphite_api.specs.Attained.{Attains, IsAttainedWithin, IsBestAttained, IsBestOfLists}
 use Rattle.graphite_api.proofs.BestLemmas.{IsBest-other, IsBest-part, IsBest-at, IsBest-is, IsBest-order}

@@ -1,9 +1,9 @@
 -- The values of the questions about journeys are lawful.
-use Rattle.std.proofs.Common.{◌≡◌, refl, sym, ap, subst, ◌∙◌, ℕ, ◌+◌, ◌-◌, ◌^◌, ◌<◌, ◌≤◌, ◌==◌, min, nat_le, nat_lt, Bool, true, IsTrue, arith, inl, inr, ◌⊎◌, ⊎_elim}
-use Rattle.std.proofs.lemmas.Bool.{leb-true, le-leb, ltb-true, lt-ltb, eqb-true, eq-eqb, cases_lt}
+use Rattle.std.proofs.Common.{◌≡◌, refl, ℕ, ◌+◌, ◌-◌, ◌^◌, ◌<◌, ◌≤◌, min, nat_le, IsTrue, arith, inl, inr, ◌⊎◌, ⊎_elim}
+use Rattle.std.proofs.lemmas.Bool.{leb-true, le-leb, ltb-true, lt-ltb, eqb-true, cases_lt}
 use Rattle.graphite_api.specs.declared.kind.Kind.{Kind}
 use Rattle.graphite_api.specs.declared.kind.Kind.TheVariants.{Reach, Earliest, Cheapest, Fastest, Latest}
-use Rattle.graphite_api.specs.Values.{Values, AreLawful}
+use Rattle.graphite_api.specs.Values.{AreLawful}
 use Rattle.graphite_api.specs.KindValues.{values_of, saturating_cheapest}
 
 le-through : (x y z : ℕ) → IsTrue (nat_le x y) → IsTrue (nat_le y z) → IsTrue (nat_le x z)

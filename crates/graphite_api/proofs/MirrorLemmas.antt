@@ -1,8 +1,7 @@
 -- The mirror of time: a journey is the mirrored journey there, and a latest departure is an earliest arrival there.
-use Rattle.std.proofs.Common.{◌≡◌, refl, sym, ap, subst, ◌∙◌, ℕ, suc, ◌+◌, ◌-◌, ◌<◌, ◌≤◌, Bool, IsTrue, List, [], ◌∷◌, ◌++◌, length, map, reverse, Option, Some, None, option_map, arith}
+use Rattle.std.proofs.Common.{◌≡◌, refl, sym, ap, subst, ◌∙◌, ℕ, ◌+◌, ◌-◌, ◌<◌, ◌≤◌, Bool, IsTrue, List, [], ◌∷◌, ◌++◌, length, map, Option, Some, None, option_map, arith}
 use Rattle.std.proofs.lemmas.List.{length-reverse, length-map}
-use Rattle.graphite_api.specs.declared.kind.Kind.{Kind}
-use Rattle.graphite_api.specs.declared.kind.Kind.TheVariants.{Earliest, Latest}
+use Rattle.graphite_api.specs.declared.kind.Kind.TheVariants.{Latest}
 use Rattle.graphite_api.specs.declared.path_query.PathQuery.{PathQuery}
 use Rattle.graphite_api.specs.Best.{IsBest, IsLeast, IsGreatest}
 use Rattle.graphite_api.specs.Hop.{Hop, arrival, Waits}
@@ -105,7 +104,7 @@ pub journey-here : (h : ℕ) (alive alive' : ℕ → ℕ → Bool) (IsHop IsHop'
 journey-here h alive alive' IsHop IsHop' mirrors s p hops v r leads =
     journey-mirrored h alive' alive IsHop' IsHop (mirrored-back h alive alive' IsHop IsHop' mirrors) s p hops v r leads
 
-module _ (h : ℕ) (alive alive' : ℕ → ℕ → Bool) (IsHop IsHop' : Hop → Type 0) (mirrors : AreMirrored h alive alive' IsHop IsHop') (query : PathQuery) (latest : query.kind ≡ Latest) (within : query.until ≤ h) where
+module _ (h : ℕ) (alive alive' : ℕ → ℕ → Bool) (IsHop IsHop' : Hop → Type 0) (mirrors : AreMirrored h alive alive' IsHop IsHop') (query : PathQuery) (latest : query.kind ≡ Latest) where
   -- the value of a journey is the mirror of that of the mirrored journey
   value-mirrored : (k v t x : ℕ) → IsValueWithin alive IsHop query k v t x → IsValueWithin alive' IsHop' (mirrored_query h query) k v (mirrored h t) (mirrored h x) × (x < h)
   value-mirrored k v t x value =
@@ -114,12 +113,13 @@ module _ (h : ℕ) (alive alive' : ℕ → ℕ → Bool) (IsHop IsHop' : Hop →
       let from = value.from in
       let until = value.until in
       let short = value.short in
+      let end = (journey-below h alive alive' IsHop IsHop' mirrors v t value.hops query.vertex value.at leads).1 in
       let below = first_departure-below h alive alive' IsHop IsHop' mirrors v t value.hops query.vertex value.at leads in (
         record {
           at = mirrored h value.at;
           hops = mirrored_hops h value.hops;
-          from = omega (arith, from, until, within);
-          until = omega (arith, from, until, within);
+          from = omega (arith, until);
+          until = omega (arith, from, end);
           leads = journey-mirrored h alive alive' IsHop IsHop' mirrors v t value.hops query.vertex value.at leads;
           short = let same = length-mirrored h value.hops in omega (arith, same, short);
           is = last_arrival-mirrored h value.at value.hops (first-below h alive alive' IsHop IsHop' mirrors v t value.hops query.vertex value.at leads) ∙ ap (mirrored h) is;
@@ -139,8 +139,8 @@ module _ (h : ℕ) (alive alive' : ℕ → ℕ → Bool) (IsHop IsHop' : Hop →
         record {
           at = mirrored h value.at;
           hops = mirrored_hops h value.hops;
-          from = omega (arith, from, until, within);
-          until = omega (arith, from, until, within);
+          from = omega (arith, until);
+          until = omega (arith, from, until);
           leads = subst (λ kind. IsAskedFor alive IsHop kind query.vertex (mirrored h value.at) (mirrored_hops h value.hops) v (mirrored h t)) (sym latest) leads;
           short = let same = length-mirrored h value.hops in omega (arith, same, short);
           is = subst (λ kind. journey_value kind (mirrored h value.at) (mirrored_hops h value.hops) ≡ mirrored h x) (sym latest) (first_departure-mirrored h value.at value.hops ∙ ap (mirrored h) is);

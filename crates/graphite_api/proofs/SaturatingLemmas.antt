@@ -1,9 +1,8 @@
 -- The sums of costs that a machine's number holds are the exact sums, where the lists are short enough.
-use Rattle.std.proofs.Common.{◌≡◌, refl, sym, ap, subst, ◌∙◌, ℕ, ◌+◌, ◌-◌, ◌*◌, ◌^◌, ◌<◌, ◌≤◌, min, nat_le, Bool, IsTrue, List, [], ◌∷◌, length, Option, Some, None, arith}
+use Rattle.std.proofs.Common.{◌≡◌, refl, sym, ◌∙◌, ℕ, ◌+◌, ◌-◌, ◌*◌, ◌^◌, ◌<◌, ◌≤◌, min, nat_le, Bool, IsTrue, List, [], ◌∷◌, length, Option, Some, None, arith}
 use Rattle.std.proofs.lemmas.Bool.{leb-true, le-leb}
 use Rattle.graphite_api.specs.declared.kind.Kind.TheVariants.{Cheapest}
-use Rattle.graphite_api.specs.Best.{IsBest}
-use Rattle.graphite_api.specs.Hop.{Hop, arrival, Waits}
+use Rattle.graphite_api.specs.Hop.{Hop}
 use Rattle.graphite_api.specs.KindValues.{values_of, saturating_cheapest}
 use Rattle.graphite_api.specs.Attained.{Attains, IsAttainedWithin, IsBestAttained, IsBestOfLists}
 use Rattle.graphite_api.proofs.BestLemmas.{IsBest-same}

@@ -1,5 +1,5 @@
 -- The values of the questions about journeys.
-use Rattle.std.specs.Prelude.{ℕ, ◌+◌, ◌-◌, ◌^◌, ◌==◌, true, min, nat_le, nat_lt}
+use Rattle.std.specs.Prelude.{◌+◌, ◌-◌, ◌^◌, ◌==◌, true, min, nat_le, nat_lt}
 use Rattle.graphite_api.specs.declared.kind.Kind.{Kind}
 use Rattle.graphite_api.specs.declared.kind.Kind.TheVariants.{Reach, Earliest, Cheapest, Fastest, Latest}
 use Rattle.graphite_api.specs.Values.{Values}
