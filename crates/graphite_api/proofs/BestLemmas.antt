@@ -15,6 +15,11 @@ pub IsBest-at : {X : Type 0} (AsGood : X → X → Type 0) (P : X → Type 0) (o
 IsBest-at AsGood P None y h best = absurd (best y h)
 IsBest-at AsGood P (Some x) y h best = (x, refl, best.1 y h)
 
+-- what is as good in one order is as good in another
+pub IsBest-order : {X : Type 0} (AsGood AsGood' : X → X → Type 0) (P : X → Type 0) (o : Option X) → ((x y : X) → AsGood x y → AsGood' x y) → IsBest AsGood P o → IsBest AsGood' P o
+IsBest-order AsGood AsGood' P None same best = best
+IsBest-order AsGood AsGood' P (Some b) same best = (best.0, λ y h. same b y (best.1 y h))
+
 -- the best one is one of them
 pub IsBest-is : {X : Type 0} (AsGood : X → X → Type 0) (P : X → Type 0) (o : Option X) (x : X) → o ≡ Some x → IsBest AsGood P o → P x
 IsBest-is AsGood P o x is best = (subst (IsBest AsGood P) is best).0
