@@ -1,7 +1,7 @@
 -- Lists of fewer hops than there are lifespans are enough: for each list there is one that leads to the same place with a
 -- value as good, and visits no lifespan twice. A way from a lifespan back to it is replaced by waiting, since no hop makes a
 -- value better.
-use Rattle.std.proofs.Common.{◌≡◌, refl, sym, subst, ℕ, ◌<◌, ◌≤◌, Bool, true, false, IsTrue, List, [], ◌∷◌, length, map, Option, Some, arith, ⊎_elim}
+use Rattle.std.proofs.Common.{◌≡◌, refl, sym, subst, ℕ, ◌<◌, ◌≤◌, Bool, true, false, IsTrue, List, [], ◌∷◌, length, map, Option, arith, ⊎_elim}
 use Rattle.std.specs.List.{list_any, IsDistinct, AllByRecursion}
 use Rattle.std.proofs.Math.Dec.{eqb}
 use Rattle.std.proofs.lemmas.Bool.{false≢true, or_parts, or_cases, eqb-true}
@@ -11,9 +11,10 @@ use Rattle.std.proofs.lemmas.Map.Steps.{length-le_from_distinct_below}
 use Rattle.graphite_time.specs.declared.interval.Interval.{Interval}
 use Rattle.graphite_api.specs.Attained.{Attains, IsAttainedWithin, IsBestAttained, IsBestOfLists}
 use Rattle.graphite_api.specs.Hop.{Hop, arrival, Waits}
+use Rattle.graphite_api.specs.Search.{IsJourneySearch}
 use Rattle.graphite_api.specs.Table.{vertex_is_alive}
 use Rattle.graphite_api.specs.TableHops.{lifespans}
-use Rattle.graphite_api.specs.Values.{Values, AreLawful}
+use Rattle.graphite_api.specs.Values.{Values}
 use Rattle.graphite_api.proofs.BestLemmas.{IsBest-other, IsBest-part}
 use Rattle.graphite_api.proofs.LifespanLemmas.{lifespan_number, lifespan_number-below, one_vertex, one_lifespan}
 use Rattle.graphite_api.proofs.WaitLemmas.{waits-through, waits-last}
@@ -24,17 +25,6 @@ none_equal n [] none = tt
 none_equal n (m ∷ ns) none =
     let parts = or_parts (eqb n m) (list_any (eqb n) ns) none in
     (parts.0, none_equal n ns parts.1)
-
--- what the values, the lives, the hops and the start of a search for the best value are
-pub record IsJourneySearch (values : Values) (lives : List (List Interval)) (IsHop : Hop → Type 0) (start : ℕ → ℕ → Option ℕ) : Type 0 where
-  pub lawful : AreLawful values
-  -- hops take time
-  pub takes_time : (hop : Hop) → IsHop hop → 1 ≤ hop.time
-  -- a search starts only where a vertex is alive, with a value that can stand there
-  pub alive : (v t x : ℕ) → start v t ≡ Some x → IsTrue (vertex_is_alive lives v t)
-  pub stands : (v t x : ℕ) → start v t ≡ Some x → IsTrue (values.stands x t)
-  -- who waits finds a start value that is as good
-  pub kept : (v p q x : ℕ) → Waits (vertex_is_alive lives) v p q → start v p ≡ Some x → (y : ℕ) × (start v q ≡ Some y) × IsTrue (values.good y x)
 
 -- the lifespans that a list of hops departs from
 abbrev departed : List (List Interval) → List Hop → List ℕ

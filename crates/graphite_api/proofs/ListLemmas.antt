@@ -1,20 +1,12 @@
 -- The best values of lists of hops: how they follow from each other as the lists grow longer, and when they no longer
 -- change.
-use Rattle.std.proofs.Common.{◌≡◌, refl, subst, ℕ, suc, ◌<◌, ◌≤◌, Bool, IsTrue, List, [], ◌∷◌, length, Option, None, Some, arith, inl, inr, ◌⊎◌}
+use Rattle.std.proofs.Common.{◌≡◌, refl, subst, ℕ, suc, ◌<◌, ◌≤◌, Bool, IsTrue, List, [], ◌∷◌, length, Option, None, Some, arith, inl, inr}
 use Rattle.std.proofs.lemmas.Option.{none-some, same_Some}
 use Rattle.graphite_api.specs.Best.{IsBest}
-use Rattle.graphite_api.specs.Hop.{Hop, arrival, Waits}
+use Rattle.graphite_api.specs.Hop.{Hop}
 use Rattle.graphite_api.specs.Values.{Values, AreLawful}
-use Rattle.graphite_api.specs.Attained.{Attains, IsAttainedWithin, IsBestAttained, IsBestOfLists}
+use Rattle.graphite_api.specs.Attained.{Attains, IsAttainedWithin, IsBestAttained, IsBestOfLists, IsOneMore}
 use Rattle.graphite_api.proofs.BestLemmas.{IsBest-other, IsBest-at, IsBest-is, IsBest-part}
-
--- What the best values, where and when each hop departs, become by one more hop: the best value here, or that of the
--- source of a hop from whose arrival v waits to t, extended by the hop.
-abbrev pub IsOneMore : Values → (ℕ → ℕ → Bool) → (Hop → Type 0) → (ℕ → ℕ → Option ℕ) → (v t x : ℕ) → Type 0
-IsOneMore values alive IsHop best v t x =
-    (best v t ≡ Some x)
-    ⊎ ((hop : Hop) × IsHop hop × (hop.to ≡ v) × Waits alive v (arrival hop) t
-    × ((y : ℕ) × (best hop.from hop.depart ≡ Some y) × (values.extend y hop.depart hop.time hop.cost ≡ x)))
 
 module _ (values : Values) (lawful : AreLawful values) (alive : ℕ → ℕ → Bool) (IsHop : Hop → Type 0) (start : ℕ → ℕ → Option ℕ) where
   abbrev AsGood : ℕ → ℕ → Type 0

@@ -9,7 +9,8 @@ use Rattle.graphite_api.specs.Attained.{IsBestAttained}
 use Rattle.graphite_api.proofs.BestLemmas.{IsBest-same}
 use Rattle.graphite_api.proofs.MemberLemmas.{Contains-filter_map, filter_map-Contains}
 use Rattle.graphite_api.proofs.ValuesLemmas.{best_of_is_best}
-use Rattle.graphite_api.proofs.ListLemmas.{IsOneMore, nothing_within_none, start_within_one, last_hop}
+use Rattle.graphite_api.proofs.ListLemmas.{nothing_within_none, start_within_one, last_hop}
+use Rattle.graphite_api.specs.Attained.{IsOneMore}
 use Rattle.graphite_api.proofs.WaitLemmas.{waits-first, waits-last}
 
 -- each vertex v is alive from the instant `born v` until the instant `dies v`, which it no longer is

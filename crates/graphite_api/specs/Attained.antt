@@ -1,5 +1,5 @@
 -- The values of lists of hops, their last hop first: a start value is carried from hop to hop.
-use Rattle.std.specs.Prelude.{◌≡◌, ℕ, Bool, ◌<◌, IsTrue, List, [], ◌∷◌, length, Option, Some}
+use Rattle.std.specs.Prelude.{◌≡◌, ℕ, Bool, ◌<◌, ◌⊎◌, IsTrue, List, [], ◌∷◌, length, Option, Some}
 use Rattle.graphite_api.specs.Best.{IsBest}
 use Rattle.graphite_api.specs.Hop.{Hop, arrival, Waits}
 use Rattle.graphite_api.specs.Values.{Values}
@@ -26,3 +26,11 @@ IsBestAttained values alive IsHop start k v t value =
 abbrev pub IsBestOfLists : Values → (ℕ → ℕ → Bool) → (Hop → Type 0) → (ℕ → ℕ → Option ℕ) → (v t : ℕ) → Option ℕ → Type 0
 IsBestOfLists values alive IsHop start v t value =
     IsBest (λ x y. IsTrue (values.good x y)) (λ x. (hops : List Hop) × Attains values alive IsHop start hops v t x) value
+
+-- What the best values, where and when each hop departs, become by one more hop: the best value here, or that of the
+-- source of a hop from whose arrival v waits to t, extended by the hop.
+abbrev pub IsOneMore : Values → (ℕ → ℕ → Bool) → (Hop → Type 0) → (ℕ → ℕ → Option ℕ) → (v t x : ℕ) → Type 0
+IsOneMore values alive IsHop best v t x =
+    (best v t ≡ Some x)
+    ⊎ ((hop : Hop) × IsHop hop × (hop.to ≡ v) × Waits alive v (arrival hop) t
+    × ((y : ℕ) × (best hop.from hop.depart ≡ Some y) × (values.extend y hop.depart hop.time hop.cost ≡ x)))

@@ -11,6 +11,7 @@ pub mod Mirror
 pub mod Outcomes
 pub mod Plan
 pub mod Rules
+pub mod Search
 pub mod Snapshot
 pub mod Supersteps
 pub mod Table

@@ -6,6 +6,7 @@ mod arc;
 mod duration;
 mod groups;
 mod instant;
+mod journey_laws;
 mod journey_program;
 mod kind;
 mod laws;
@@ -20,6 +21,12 @@ mod table;
 pub use arc::Arc;
 pub use duration::Duration;
 pub use graphite_warp::Message;
+pub use journey_laws::{
+    best_of_lists_is_best_of_journeys, each_message_is_attained,
+    fewer_hops_than_lifespans_are_enough, latest_is_earliest_in_the_mirror,
+    saturating_sums_are_exact, settled_values_are_best, the_first_departure_is_enough,
+    the_last_hop_makes_the_best,
+};
 pub use journey_program::JourneyProgram;
 pub use kind::Kind;
 pub use laws::{both_ends_tell, early_stop_changes_nothing, going_on_is_one_run, silence_lasts};

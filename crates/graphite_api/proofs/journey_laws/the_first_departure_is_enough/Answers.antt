@@ -1,0 +1,9 @@
+-- The message of the first departure.
+use Rattle.graphite_api.proofs.DepartureLemmas.{message_holds, message_good}
+use Rattle.graphite_api.proofs.journey_laws.the_first_departure_is_enough.Goals as goal
+
+pub returns : goal.returns
+returns c = λ values lives arc over x message lawful lives_are stays first last made depart t held waits. (
+  message_holds values lives arc stays over first last x message lives_are made depart t held waits,
+  message_good values lives arc stays over first last x message lawful made depart held,
+)
