@@ -24,4 +24,5 @@ pub mod SuperstepLemmas
 pub mod TableLemmas
 pub mod ValuesLemmas
 pub mod WaitLemmas
+pub mod WrittenExists
 pub mod WrittenLemmas
