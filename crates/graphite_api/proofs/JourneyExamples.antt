@@ -11,30 +11,30 @@ use Rattle.graphite_api.proofs.KindLemmas.{earliest_is_lawful, cheapest_is_lawfu
 use Rattle.graphite_api.proofs.ListedHops.{alive_between, waits_between, waits_between-Waits, Waits-waits_between, waits_between_decides, best_by, best_by_is_best}
 
 -- the first ten instants
-abbrev ten : List ℕ
+abbrev pub ten : List ℕ
 ten = 0 ∷ 1 ∷ 2 ∷ 3 ∷ 4 ∷ 5 ∷ 6 ∷ 7 ∷ 8 ∷ 9 ∷ []
 
 -- the hops of an edge at some departures, which take the same time and cost
-abbrev hops_of : (edge from to time cost : ℕ) → List ℕ → List Hop
+abbrev pub hops_of : (edge from to time cost : ℕ) → List ℕ → List Hop
 hops_of edge from to time cost departures =
     map (λ depart. record { edge = edge; from = from; to = to; depart = depart; time = time; cost = cost }) departures
 
 -- the vertex a is the source: it has the start value 0 while it is alive, which is until the horizon
-abbrev from_a : (horizon : ℕ) → ℕ → ℕ → Option ℕ
+abbrev pub from_a : (horizon : ℕ) → ℕ → ℕ → Option ℕ
 from_a horizon v t = cond ((v == 0) && nat_lt t horizon) (Some 0) None
 
 -- A late departure that arrives first: an edge from a to b over the instants 0 to 9 takes 9 until the instant 4 and 1
 -- from 5 on.
-abbrev overtaking_hops : List Hop
+abbrev pub overtaking_hops : List Hop
 overtaking_hops = hops_of 0 0 1 9 1 (0 ∷ 1 ∷ 2 ∷ 3 ∷ 4 ∷ []) ++ hops_of 0 0 1 1 1 (5 ∷ 6 ∷ 7 ∷ 8 ∷ 9 ∷ [])
 
-abbrev overtaking_alive : ℕ → ℕ → Bool
+abbrev pub overtaking_alive : ℕ → ℕ → Bool
 overtaking_alive = alive_between (λ v. 0) (λ v. 20)
 
-abbrev overtaking_waits : ℕ → ℕ → ℕ → Bool
+abbrev pub overtaking_waits : ℕ → ℕ → ℕ → Bool
 overtaking_waits = waits_between (λ v. 0) (λ v. 20)
 
-overtaking : (k v t : ℕ) → Option ℕ
+unfoldable pub overtaking : (k v t : ℕ) → Option ℕ
 overtaking = best_by earliest_values overtaking_waits overtaking_hops (from_a 20)
 
 overtaking_is_best : (k v t : ℕ) → IsBestAttained earliest_values overtaking_alive (Contains overtaking_hops) (from_a 20) k v t (overtaking k v t)
@@ -60,7 +60,7 @@ unfolding overtaking
 overtaking_best_at_6 = overtaking_is_best 2 1 6
 
 -- the journey of the hop that departs at 5, and that of the hop that departs at 0
-late_hop : Hop
+unfoldable pub late_hop : Hop
 late_hop = record { edge = 0; from = 0; to = 1; depart = 5; time = 1; cost = 1 }
 
 soon_hop : Hop
@@ -93,16 +93,16 @@ unfolding soon_hop
 soon_journey_value = refl
 
 -- A cycle that costs nothing: edges from a to b and back of cost 0 and one from b to c of cost 1, over ten instants.
-abbrev cycle_hops : List Hop
+abbrev pub cycle_hops : List Hop
 cycle_hops = hops_of 0 0 1 1 0 ten ++ (hops_of 1 1 0 1 0 ten ++ hops_of 2 1 2 1 1 ten)
 
-abbrev cycle_alive : ℕ → ℕ → Bool
+abbrev pub cycle_alive : ℕ → ℕ → Bool
 cycle_alive = alive_between (λ v. 0) (λ v. 10)
 
-abbrev cycle_waits : ℕ → ℕ → ℕ → Bool
+abbrev pub cycle_waits : ℕ → ℕ → ℕ → Bool
 cycle_waits = waits_between (λ v. 0) (λ v. 10)
 
-cycle : (k v t : ℕ) → Option ℕ
+unfoldable pub cycle : (k v t : ℕ) → Option ℕ
 cycle = best_by cheapest_values cycle_waits cycle_hops (from_a 10)
 
 cycle_is_best : (k v t : ℕ) → IsBestAttained cheapest_values cycle_alive (Contains cycle_hops) (from_a 10) k v t (cycle k v t)
@@ -136,13 +136,13 @@ cycle_stays_at_c = refl
 
 -- Two hops after each other: c is alive over the instants 2 to 7; an edge leads from a to b over 0 to 4 and one from b to
 -- c over 3 to 6.
-abbrev chain_hops : List Hop
+abbrev pub chain_hops : List Hop
 chain_hops = hops_of 0 0 1 1 1 (0 ∷ 1 ∷ 2 ∷ 3 ∷ 4 ∷ []) ++ hops_of 1 1 2 1 1 (3 ∷ 4 ∷ 5 ∷ 6 ∷ [])
 
-abbrev chain_born : ℕ → ℕ
+abbrev pub chain_born : ℕ → ℕ
 chain_born v = cond (v == 2) 2 0
 
-abbrev chain_dies : ℕ → ℕ
+abbrev pub chain_dies : ℕ → ℕ
 chain_dies v = cond (v == 2) 8 10
 
 chain : (k v t : ℕ) → Option ℕ

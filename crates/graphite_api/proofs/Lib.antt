@@ -15,11 +15,14 @@ pub mod MadeLemmas
 pub mod MemberLemmas
 pub mod MirrorLemmas
 pub mod OutcomeLemmas
+pub mod PathExamples
 pub mod RangeLemmas
 pub mod SaturatingLemmas
+pub mod SmallWorlds
 pub mod StayLemmas
 pub mod SuperstepLemmas
 pub mod TableLemmas
 pub mod ValuesLemmas
 pub mod WaitLemmas
+pub mod WrittenExists
 pub mod WrittenLemmas

@@ -78,7 +78,7 @@ module _ (alive : ℕ → ℕ → Bool) (IsHop : Hop → Type 0) (query : PathQu
       )
 
 -- what a value becomes by one hop more
-after-more : (kind : Kind) → kind ≢ Latest → (at : ℕ) (hops : List Hop) (hop : Hop) → journey_value kind at (hops ++ hop ∷ []) ≡ value_after kind (journey_value kind at hops) hop
+pub after-more : (kind : Kind) → kind ≢ Latest → (at : ℕ) (hops : List Hop) (hop : Hop) → journey_value kind at (hops ++ hop ∷ []) ≡ value_after kind (journey_value kind at hops) hop
 after-more Reach other at hops hop = refl
 after-more Earliest other at hops hop = value-more Earliest other at hops hop
 after-more Cheapest other at hops hop = value-more Cheapest other at hops hop
