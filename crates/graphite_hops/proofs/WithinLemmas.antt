@@ -47,11 +47,11 @@ meets-from over span left right = and_from _ _ (lt-ltb _ _ left) (lt-ltb _ _ rig
 
 fails_before : (over span : Interval) → end_of span ≤ start_of over → meets over span ≡ false
 fails_before over span before =
-    false_from_ne_true (meets over span) (λ (is : meets over span ≡ true). let less : start_of over < end_of span = ltb-true (start_of over) (end_of span) (and_parts _ _ is).0 in omega (arith, less, before))
+    false_from_ne_true (meets over span) (λ (is : meets over span ≡ true). let less : start_of over < end_of span = ltb-true (start_of over) (end_of span) (and_parts (nat_lt (start_of over) (end_of span)) (nat_lt (start_of span) (end_of over)) is).0 in omega (arith, less, before))
 
 fails_after : (over span : Interval) → end_of over ≤ start_of span → meets over span ≡ false
 fails_after over span after =
-    false_from_ne_true (meets over span) (λ (is : meets over span ≡ true). let less : start_of span < end_of over = ltb-true (start_of span) (end_of over) (and_parts _ _ is).1 in omega (arith, less, after))
+    false_from_ne_true (meets over span) (λ (is : meets over span ≡ true). let less : start_of span < end_of over = ltb-true (start_of span) (end_of over) (and_parts (nat_lt (start_of over) (end_of span)) (nat_lt (start_of span) (end_of over)) is).1 in omega (arith, less, after))
 
 -- those that end after the start of the interval and start before its end
 pub meeting : (spans later : List Interval) (over : Interval) (from until start end : ℕ)
