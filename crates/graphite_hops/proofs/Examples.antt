@@ -1,5 +1,5 @@
--- Links of small graphs at an instant, by computing.
-use Rattle.std.proofs.Common.{◌≡◌, ℕ, List, [], ◌∷◌, Some, None, refl}
+-- Links and hops of small graphs at an instant, by computing.
+use Rattle.std.proofs.Common.{◌≡◌, ℕ, true, false, List, [], ◌∷◌, Some, None, refl}
 use Rattle.std.specs.Prelude.{codes}
 use Rattle.graphite_text.specs.declared.span.Span.{Span}
 use Rattle.graphite_text.specs.Graph.{PlainGraph, PlainVertex, PlainEdge}
@@ -7,6 +7,7 @@ use Rattle.graphite_api.specs.Snapshot.{Link}
 use Rattle.graphite_hops.specs.declared.direction.Direction.TheVariants.{Out, Both}
 use Rattle.graphite_hops.specs.Links.{links_at, links_in}
 use Rattle.graphite_hops.specs.Arcs.{travel_at}
+use Rattle.graphite_hops.specs.Hops.{is_hop, hop_at}
 
 abbrev span : ℕ → ℕ → Span
 span a b = record { a = a; b = b }
@@ -56,3 +57,35 @@ travel_at_3 = refl
 
 travel_at_10 : travel_at graph 0 10 ≡ None
 travel_at_10 = refl
+
+-- the edge x to b, with the times above: it is entered at 9 and arrives at 10, when it is no more
+is_hop_9 : is_hop graph 0 9 ≡ true
+is_hop_9 = refl
+
+is_hop_10 : is_hop graph 0 10 ≡ false
+is_hop_10 = refl
+
+hop_at_5 : hop_at graph 0 5 ≡ record { edge = 0; from = 0; to = 1; depart = 5; time = 3; cost = 5 }
+hop_at_5 = refl
+
+-- an edge to a vertex that dies at 8, at a horizon of 10, and one to a vertex that lives until then
+abbrev ends : PlainGraph
+ends = record {
+  horizon = 10;
+  vertices = vertex (codes "a") 0 10 ∷ vertex (codes "b") 0 8 ∷ vertex (codes "c") 0 10 ∷ [];
+  edges = edge (codes "x") 0 1 0 8 ∷ edge (codes "y") 0 2 0 10 ∷ [];
+  vertex_properties = [];
+  edge_properties = [];
+}
+
+arrives_alive : is_hop ends 0 6 ≡ true
+arrives_alive = refl
+
+arrives_dead : is_hop ends 0 7 ≡ false
+arrives_dead = refl
+
+arrives_last : is_hop ends 1 8 ≡ true
+arrives_last = refl
+
+arrives_at_horizon : is_hop ends 1 9 ≡ false
+arrives_at_horizon = refl

@@ -1,4 +1,9 @@
+pub mod DepartureLemmas
 mod Examples
+pub mod HopLemmas
+pub mod JourneyLemmas
 pub mod LinkLemmas
 pub mod PairedLemmas
+pub mod PartLemmas
 pub mod TravelLemmas
+pub mod WithinLemmas

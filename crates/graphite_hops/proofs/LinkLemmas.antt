@@ -146,7 +146,7 @@ All-with P cmp x (y ∷ ys) own all = by (is_lt (cmp y x)) (All-with P cmp x ys 
     by true rest = All-cons P y (with_element cmp x ys) (all 0 y (omega arith)) rest
     by false rest = All-cons P x (y ∷ ys) own all
 
-All-sorted : {X : Type 0} (P : X → Type 0) (cmp : X → X → Ordering) (xs : List X) → All P xs → All P (sorted cmp xs)
+pub All-sorted : {X : Type 0} (P : X → Type 0) (cmp : X → X → Ordering) (xs : List X) → All P xs → All P (sorted cmp xs)
 All-sorted P cmp [] all = All-nil P
 All-sorted P cmp (x ∷ xs) all = All-with P cmp x (sorted cmp xs) (all 0 x (omega arith)) (All-sorted P cmp xs (All-tail P x xs all))
 
@@ -185,7 +185,7 @@ lives_alike (life ∷ lives) (vertex ∷ vertices) (suc v) t same =
     let rest : map (map as_span) lives ≡ map (λ vertex. vertex.life) vertices = cc in
     lives_alike lives vertices v t rest
 
-lives_count : (lives : List (List Interval)) (vertices : List PlainVertex) → map (map as_span) lives ≡ map (λ vertex. vertex.life) vertices → length lives ≡ length vertices
+pub lives_count : (lives : List (List Interval)) (vertices : List PlainVertex) → map (map as_span) lives ≡ map (λ vertex. vertex.life) vertices → length lives ≡ length vertices
 lives_count [] [] same = refl
 lives_count [] (vertex ∷ vertices) same = cc
 lives_count (life ∷ lives) [] same = cc

@@ -1,5 +1,5 @@
 -- The time and the cost of an edge, and its arcs.
-use Rattle.std.proofs.Common.{◌≡◌, refl, sym, ap, subst, ◌∙◌, ℕ, zero, suc, ◌+◌, ◌<◌, ◌≤◌, ◌==◌, arith, Bool, true, false, cond, List, [], ◌∷◌, ◌++◌, All, map, length, take, get_or, Some, None, IsTrue, Result, Ok, Err, IfOk, OnOk, slice_get, eq-eqb, ⊎_elim}
+use Rattle.std.proofs.Common.{◌≡◌, refl, sym, ap, subst, ◌∙◌, ℕ, zero, suc, ◌+◌, ◌<◌, ◌≤◌, ◌==◌, arith, Bool, true, false, cond, List, [], ◌∷◌, ◌++◌, All, map, length, take, get_or, Option, Some, None, IsTrue, Result, Ok, Err, IfOk, OnOk, slice_get, eq-eqb, ⊎_elim}
 use Rattle.std.specs.Prelude.{unwrap_or, codes}
 use Rattle.std.specs.List.{flat_map, range_with_len}
 use Rattle.std.proofs.lemmas.Bool.{cases_lt, cond-true, cond-false, false_from_ne_true, eqb-true}
@@ -22,7 +22,7 @@ use Rattle.graphite_graph.specs.Ends.{edge_ends}
 use Rattle.graphite_graph.proofs.LifeLemmas.{is_alive-as_span}
 use Rattle.graphite_api.specs.declared.arc.Arc.{Arc}
 use Rattle.graphite_api.proofs.RangeLemmas.{range_more}
-use Rattle.graphite_hops.specs.Arcs.{travel_at, arc_between, arc_on, AreArcsOf, EdgeAdded, IsArcIn}
+use Rattle.graphite_hops.specs.Arcs.{travel_at, arc_between, AreRunArcs, RunsAdded, EdgeAdded, IsArcIn}
 use Rattle.graphite_hops.specs.Links.{ends_of}
 use Rattle.graphite_hops.specs.Paired.{paired}
 
@@ -31,6 +31,10 @@ use Rattle.graphite_hops.specs.Paired.{paired}
 pub IfOk-to : {T E : Type 0} (P Q : T → Type 0) (r : Result T E) → ((x : T) → P x → Q x) → IfOk r P → IfOk r Q
 IfOk-to P Q (Ok x) step h = step x h
 IfOk-to P Q (Err e) step h = tt
+
+pub IfOk-both : {T E : Type 0} (P Q R : T → Type 0) (r : Result T E) → ((x : T) → P x → Q x → R x) → IfOk r P → IfOk r Q → IfOk r R
+IfOk-both P Q R (Ok x) step h k = step x h k
+IfOk-both P Q R (Err e) step h k = tt
 
 pub OnOk-to : {T E : Type 0} (P Q : Type 0) (r : Result T E) → (P → Q) → OnOk r P → OnOk r Q
 OnOk-to P Q (Ok x) step h = step h
@@ -129,25 +133,26 @@ flat_map-same f g a (suc n) same =
     ap (λ xs. xs ++ flat_map f (range_with_len (a + 1) n)) (same a (omega arith) (omega arith))
     ∙ ap (λ xs. g a ++ xs) (flat_map-same f g (a + 1) n (λ k low high. same k (omega (arith, low)) (omega (arith, high))))
 
-pub AreArcsOf-none : (graph : PlainGraph) (arcs : List Arc) → arcs ≡ [] → AreArcsOf graph 0 arcs
-AreArcsOf-none graph arcs is = record { pieces = λ e. []; runs = λ e h. absurd (omega (arith, h)); arcs_are = is }
+pub AreRunArcs-none : {X : Type 0} (values : ℕ → ℕ → Option X) (arc : ℕ → Piece X → Arc) (arcs : List Arc) → arcs ≡ [] → AreRunArcs values arc 0 arcs
+AreRunArcs-none values arc arcs is =
+    record { pieces = λ e. []; runs = λ e h. absurd (omega (arith, h)); arcs_are = is }
 
-pub AreArcsOf-more : (graph : PlainGraph) (n : ℕ) (old new : List Arc) → AreArcsOf graph n old → EdgeAdded graph n old new → AreArcsOf graph (n + 1) new
-AreArcsOf-more graph n old new so_far one =
-    let pieces : ℕ → List (Piece (ℕ × ℕ)) = λ e. cond (e == n) one.pieces (so_far.pieces e) in
+pub AreRunArcs-more : {X : Type 0} (values : ℕ → ℕ → Option X) (arc : ℕ → Piece X → Arc) (n : ℕ) (old new : List Arc) → AreRunArcs values arc n old → RunsAdded (values n) (arc n) old new → AreRunArcs values arc (n + 1) new
+AreRunArcs-more {X} values arc n old new so_far one =
+    let pieces : ℕ → List (Piece X) = λ e. cond (e == n) one.pieces (so_far.pieces e) in
     let own : pieces n ≡ one.pieces = cond-true _ _ _ (eq-eqb n n refl) in
     let others : (e : ℕ) → e < n → pieces e ≡ so_far.pieces e = λ e below. cond-false _ _ _ (false_from_ne_true (e == n) (λ (is : (e == n) ≡ true). omega (arith, eqb-true e n is, below))) in
-    let each : ℕ → List Arc = λ e. map (arc_on graph e) (pieces e) in
-    let before : flat_map (λ e. map (arc_on graph e) (so_far.pieces e)) (range_with_len 0 n) ≡ flat_map each (range_with_len 0 n) =
-    flat_map-same (λ e. map (arc_on graph e) (so_far.pieces e)) each 0 n (λ k low high. ap (map (arc_on graph k)) (sym (others k (omega (arith, high))))) in
+    let each : ℕ → List Arc = λ e. map (arc e) (pieces e) in
+    let before : flat_map (λ e. map (arc e) (so_far.pieces e)) (range_with_len 0 n) ≡ flat_map each (range_with_len 0 n) =
+    flat_map-same (λ e. map (arc e) (so_far.pieces e)) each 0 n (λ k low high. ap (map (arc k)) (sym (others k (omega (arith, high))))) in
     let last : (0 + n) ≡ n = omega arith in
-    let all : flat_map each (range_with_len 0 (n + 1)) ≡ flat_map each (range_with_len 0 n) ++ map (arc_on graph n) one.pieces =
-    ap (flat_map each) (range_more 0 n ∙ ap (λ m. range_with_len 0 n ++ m ∷ []) last) ∙ flat_map-append each (range_with_len 0 n) (n ∷ []) ∙ ap (λ xs. flat_map each (range_with_len 0 n) ++ xs) (append-nil (each n) ∙ ap (map (arc_on graph n)) own) in
+    let all : flat_map each (range_with_len 0 (n + 1)) ≡ flat_map each (range_with_len 0 n) ++ map (arc n) one.pieces =
+    ap (flat_map each) (range_more 0 n ∙ ap (λ m. range_with_len 0 n ++ m ∷ []) last) ∙ flat_map-append each (range_with_len 0 n) (n ∷ []) ∙ ap (λ xs. flat_map each (range_with_len 0 n) ++ xs) (append-nil (each n) ∙ ap (map (arc n)) own) in
     record {
       pieces = pieces;
       runs = λ e below. ⊎_elim
-          (λ (less : e < n). subst (AreRuns (travel_at graph e)) (sym (others e less)) (so_far.runs e less))
-          (λ (ge : n ≤ e). let same : n ≡ e = omega (arith, ge, below) in subst (λ k. AreRuns (travel_at graph k) (pieces k)) same (subst (AreRuns (travel_at graph n)) (sym own) one.runs))
+          (λ (less : e < n). subst (AreRuns (values e)) (sym (others e less)) (so_far.runs e less))
+          (λ (ge : n ≤ e). let same : n ≡ e = omega (arith, ge, below) in subst (λ k. AreRuns (values k) (pieces k)) same (subst (AreRuns (values n)) (sym own) one.runs))
           (cases_lt e n);
-      arcs_are = one.added ∙ ap (λ xs. xs ++ map (arc_on graph n) one.pieces) (so_far.arcs_are ∙ before) ∙ sym all;
+      arcs_are = one.added ∙ ap (λ xs. xs ++ map (arc n) one.pieces) (so_far.arcs_are ∙ before) ∙ sym all;
     }

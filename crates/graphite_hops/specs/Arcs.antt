@@ -34,11 +34,16 @@ arc_between e ends piece = record {
 abbrev pub arc_on : PlainGraph → ℕ → Piece (ℕ × ℕ) → Arc
 arc_on graph e piece = arc_between e (ends_of graph e) piece
 
+-- The arcs of the first n edges, by a value that each edge has at each instant, or nothing: for each of them, one arc for
+-- each maximal run of its values.
+pub record AreRunArcs {X : Type 0} (values : ℕ → ℕ → Option X) (arc : ℕ → Piece X → Arc) (n : ℕ) (arcs : List Arc) : Type 0 where
+  pub pieces : ℕ → List (Piece X)
+  pub runs : (e : ℕ) → e < n → AreRuns (values e) (pieces e)
+  pub arcs_are : arcs ≡ flat_map (λ e. map (arc e) (pieces e)) (range_with_len 0 n)
+
 -- the arcs of the first n edges: for each of them, one for each maximal run of its time and cost
-pub record AreArcsOf (graph : PlainGraph) (n : ℕ) (arcs : List Arc) : Type 0 where
-  pub pieces : ℕ → List (Piece (ℕ × ℕ))
-  pub runs : (e : ℕ) → e < n → AreRuns (travel_at graph e) (pieces e)
-  pub arcs_are : arcs ≡ flat_map (λ e. map (arc_on graph e) (pieces e)) (range_with_len 0 n)
+abbrev pub AreArcsOf : PlainGraph → ℕ → List Arc → Type 0
+AreArcsOf graph n arcs = AreRunArcs (travel_at graph) (arc_on graph) n arcs
 
 -- the arc the other way round
 abbrev pub turned_arc : Arc → Arc
@@ -70,8 +75,12 @@ pub record AreDirectedArcs (graph : PlainGraph) (direction : Direction) (arcs : 
   pub fit : All (IsArcIn graph) forward
   pub directed : arcs ≡ arcs_in direction forward
 
--- the arcs of one edge were put behind the old ones
-pub record EdgeAdded (graph : PlainGraph) (e : ℕ) (old new : List Arc) : Type 0 where
-  pub pieces : List (Piece (ℕ × ℕ))
-  pub runs : AreRuns (travel_at graph e) pieces
-  pub added : new ≡ old ++ map (arc_on graph e) pieces
+-- the arcs of one edge were put behind the old ones: one for each maximal run of its values
+pub record RunsAdded {X : Type 0} (values : ℕ → Option X) (arc : Piece X → Arc) (old new : List Arc) : Type 0 where
+  pub pieces : List (Piece X)
+  pub runs : AreRuns values pieces
+  pub added : new ≡ old ++ map arc pieces
+
+-- the arcs of one edge, by its time and cost
+abbrev pub EdgeAdded : PlainGraph → ℕ → List Arc → List Arc → Type 0
+EdgeAdded graph e old new = RunsAdded (travel_at graph e) (arc_on graph e) old new

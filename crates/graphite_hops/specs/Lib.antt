@@ -1,3 +1,5 @@
 pub mod Arcs
+pub mod Departures
+pub mod Hops
 pub mod Links
 pub mod Paired

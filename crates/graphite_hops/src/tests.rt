@@ -10,6 +10,9 @@ use std::test::Fail;
 /// time and cost.
 type Row = ((u32, u32, u32), (u64, u64), (u32, u32));
 
+/// The same, and the ends of the lifespan of the target that it names.
+type HopRow = (Row, (u64, u64));
+
 /// Three vertices, and an edge each from the first to the second and from there to the third.
 fn three_stops() -> &'static [u8] {
     b"graph 1 10\nv a 0 10\nv b 0 10\nv c 2 8\ne ab a b 0 5\ne bc b c 3 7\nend\n"
@@ -69,5 +72,73 @@ fn edges_are_arcs(rt: HostRuntime) -> Result<(), Fail> {
 fn edges_are_cut_where_time_or_cost_changes(rt: HostRuntime) -> Result<(), Fail> {
     let table = table_of(rt.alloc(), two_stops(), Direction::Both)?;
     assert_arcs(&rt, &table, arcs_of_two_stops());
+    Ok(())
+}
+
+/// An edge that takes 9 instants at first and 1 later.
+fn slow_then_fast() -> &'static [u8] {
+    b"graph 1 20\nv a 0 20\nv b 0 20\ne x a b 0 10\npe x time 0 5 9\npe x time 5 10 1\nend\n"
+}
+
+fn hops_of_slow_then_fast() -> &'static [HopRow] {
+    &[
+        (((0, 0, 1), (0, 5), (9, 1)), (0, 20)),
+        (((0, 0, 1), (5, 10), (1, 1)), (0, 20)),
+    ]
+}
+
+/// An edge that can be taken, one that would arrive at the horizon, and one to a vertex that is dead by then.
+fn ends_of_time() -> &'static [u8] {
+    b"graph 1 10\nv a 0 10\nv b 0 10\nv c 0 10\nv d 0 8\ne x a b 8 9\ne y a c 9 10\ne z a d 7 8\nend\n"
+}
+
+fn hops_of_ends_of_time() -> &'static [HopRow] {
+    &[(((0, 0, 1), (8, 9), (1, 1)), (0, 10))]
+}
+
+/// An edge whose cost changes, to a vertex that dies with it, so that the last hops are too late.
+fn too_late() -> &'static [u8] {
+    b"graph 1 20\nv a 0 20\nv b 3 8\ne x a b 3 8\npe x time 3 8 2\npe x cost 4 5 6\nend\n"
+}
+
+fn hops_of_too_late() -> &'static [HopRow] {
+    &[
+        (((0, 0, 1), (3, 4), (2, 1)), (3, 8)),
+        (((0, 0, 1), (4, 5), (2, 6)), (3, 8)),
+        (((0, 0, 1), (5, 6), (2, 1)), (3, 8)),
+    ]
+}
+
+fn assert_hops(rt: &impl Abort, table: &ArcTable, rows: &[HopRow]) {
+    assert_eq!(rt; table.arcs().len(), rows.len());
+    for (arc, (row, stay)) in table.arcs().iter().zip(rows) {
+        assert_arc(rt, arc, row);
+        assert_eq!(rt; (arc.stay.a(), arc.stay.b()), *stay);
+    }
+}
+
+fn hops_of(alloc: Global, text: &[u8]) -> Result<ArcTable, Fail> {
+    let graph = load(alloc, text)?;
+    Ok(journey_arcs(alloc, &graph)?)
+}
+
+#[test]
+fn hops_have_the_time_of_their_departure(rt: HostRuntime) -> Result<(), Fail> {
+    let table = hops_of(rt.alloc(), slow_then_fast())?;
+    assert_hops(&rt, &table, hops_of_slow_then_fast());
+    Ok(())
+}
+
+#[test]
+fn hops_arrive_at_live_vertices_below_the_horizon(rt: HostRuntime) -> Result<(), Fail> {
+    let table = hops_of(rt.alloc(), ends_of_time())?;
+    assert_hops(&rt, &table, hops_of_ends_of_time());
+    Ok(())
+}
+
+#[test]
+fn hops_are_cut_where_the_cost_changes(rt: HostRuntime) -> Result<(), Fail> {
+    let table = hops_of(rt.alloc(), too_late())?;
+    assert_hops(&rt, &table, hops_of_too_late());
     Ok(())
 }
