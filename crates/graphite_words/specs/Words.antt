@@ -11,8 +11,8 @@ use Rattle.graphite_base.specs.Numbers.{number_in}
 use Rattle.graphite_api.specs.declared.TheConstants.{STEP_LIMIT}
 use Rattle.graphite_time.specs.declared.TheConstants.{LAST}
 use Rattle.graphite_words.specs.declared.table.Command.{Command}
-use Rattle.graphite_words.specs.declared.report.Report.{Report}
-use Rattle.graphite_words.specs.declared.report.Report.TheVariants.{Intervals, Sums, At}
+use Rattle.graphite_words.specs.declared.query.Report.{Report}
+use Rattle.graphite_words.specs.declared.query.Report.TheVariants.{Intervals, Sums, At}
 use Rattle.graphite_words.specs.Table.{PlainRow, command_of, row_of}
 
 -- ---- how the words are read

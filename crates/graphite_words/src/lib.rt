@@ -5,13 +5,12 @@ mod fault;
 mod given;
 mod parse;
 mod query;
-mod report;
 mod steps;
 mod table;
+mod values;
 
 pub use fault::WordsFault;
-pub use query::{Query, query_of};
-pub use report::Report;
+pub use query::{Query, Report, query_of};
 pub use steps::Steps;
 pub use table::{Command, Row, row_of};
 

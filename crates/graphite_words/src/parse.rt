@@ -12,9 +12,14 @@ use std::alloc::{AllocError, Global};
 pub fn has_dashes(words: &[String]) -> bool
     ensures { result ≡ list_any is_dashes (map string_bytes words.now) }
 {
-    words
-        .iter()
-        .any(|word| word.as_str() == "-" || word.as_str() == "--")
+    words.iter().any(|word| is_dashes(word.as_str()))
+}
+
+/// Whether a word is `-` or `--`.
+fn is_dashes(word: &str) -> bool
+    ensures { result ≡ is_dashes word.now }
+{
+    word == "-" || word == "--"
 }
 
 /// The line that is read: the name of the program, and the words after it.

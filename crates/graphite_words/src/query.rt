@@ -8,12 +8,23 @@ ghost use Rattle.graphite_words.specs.Words.{query_by, query_of, query_with};
 use crate::fault::WordsFault;
 use crate::given::Given;
 use crate::parse::{has_dashes, line_of, matches_in};
-use crate::report::{Report, report_of};
-use crate::steps::{Steps, steps_of};
+use crate::steps::Steps;
 use crate::table::{Command, command_of, row_of};
+use crate::values::{report_of, steps_of};
 use graphite_base::Bytes;
 use graphite_time::NoMemory;
 use std::alloc::Global;
+
+/// What a report says of the answer.
+#[derive(Clone, Copy, Debug, PartialEq, Eq)]
+pub enum Report {
+    /// The value of each vertex in each interval of its life.
+    Intervals,
+    /// The sums of the values in each interval.
+    Sums,
+    /// The value of each vertex at an instant.
+    At(u64),
+}
 
 /// What the words ask for: a program with the options that it takes.
 #[derive(Drop, PartialEq, Eq)]
