@@ -1,0 +1,16 @@
+use Rattle.std.proofs.Common.{◌≡◌, ◌∙◌, rules, codes}
+use Rattle.std.proofs.lemmas.Result.{IfOk-weaker}
+use Rattle.clap.specs.Words.{App, app_of, new_app, new_rule, with_rule}
+use Rattle.graphite_words.specs.Words.{graphite_command, option_rule}
+use Rattle.graphite_words.proofs.ParseLemmas.{app_added}
+use Rattle.graphite_words.proofs.parse.graphite_command.Goals as goal
+
+pub returns : goal.returns
+unfolding graphite_command
+returns c =
+    let program = app_added _ _ _ _ (new_rule (codes "program")) c.in_ok-arg.ensures c.new-program.ensures.optional.1 c.new.ensures.app c.new-program.ensures.rule in
+    let source = app_added _ _ _ _ (option_rule (codes "source")) c.in_ok-arg-2.ensures c.option.ensures.local program c.option.ensures.rule in
+    let key = app_added _ _ _ _ (option_rule (codes "key")) c.in_ok-arg-3.ensures c.option-2.ensures.local source c.option-2.ensures.rule in
+    let steps = app_added _ _ _ _ (option_rule (codes "steps")) c.in_ok-arg-4.ensures c.option-3.ensures.local key c.option-3.ensures.rule in
+    let report = app_added _ _ _ _ (option_rule (codes "report")) c.in_ok-arg-5.ensures c.option-4.ensures.local steps c.option-4.ensures.rule in
+    IfOk-weaker c.arg-6.result _ _ (λ command added. app_added _ _ _ _ (option_rule (codes "at")) added c.option-5.ensures.local report c.option-5.ensures.rule) c.arg-6.ensures

@@ -1,0 +1,43 @@
+-- For proofs and private functions alone: what the code's rows and queries say.
+use Rattle.std.specs.Prelude.{ℕ, Option, option_map}
+use Rattle.graphite_words.specs.declared.given.Given.{Given}
+use Rattle.graphite_words.specs.declared.query.Query.{Query}
+use Rattle.graphite_words.specs.declared.steps.Steps.{Steps}
+use Rattle.graphite_words.specs.declared.table.Row.{Row}
+use Rattle.graphite_words.specs.Table.{PlainRow}
+use Rattle.graphite_words.specs.Words.{PlainGiven, PlainQuery}
+
+-- the number of supersteps, where it is given
+abbrev pub number_given : Option Steps → Option ℕ
+number_given steps = option_map (λ steps. steps.number) steps
+
+abbrev pub plain_row : Row → PlainRow
+plain_row row = record {
+  word = row.word.now;
+  wants_source = row.wants_source;
+  wants_key = row.wants_key;
+  takes_steps = row.takes_steps;
+  takes_report = row.takes_report;
+  usual_steps = number_given row.usual_steps;
+}
+
+-- what the code has read of the words
+abbrev pub plain_given : Given → PlainGiven
+plain_given given = record {
+  program = option_map (λ text. text.now) given.program;
+  source = option_map (λ text. text.now) given.source;
+  key = option_map (λ text. text.now) given.key;
+  steps = option_map (λ text. text.now) given.steps;
+  report = option_map (λ text. text.now) given.report;
+  at = option_map (λ text. text.now) given.at;
+}
+
+-- what a query of the code asks for
+abbrev pub plain_query : Query → PlainQuery
+plain_query query = record {
+  command = query.command;
+  vertex = query.vertex;
+  key = query.key;
+  steps = number_given query.steps;
+  report = query.report;
+}

@@ -1,0 +1,131 @@
+-- What the words ask for. How a list of words is read is the published definition of `clap` for a simple command; what
+-- the program asks of a list that is read stands here.
+use Rattle.std.specs.Prelude.{ℕ, Bool, true, false, not, ◌||◌, ◌&&◌, ◌==◌, is_none, is_some, List, [], ◌∷◌, codes, Option, Some, None, option_map, option_and_then, if◌then◌else◌}
+use Rattle.std.specs.List.{list_any}
+use Rattle.std.specs.Str.{bytes_eq}
+use Rattle.clap.specs.Words.{App, Rule, Text, fault_of, first_of, matches_of, new_app, new_rule, with_rule}
+use Rattle.clap.specs.Words.{Row as Match}
+use Rattle.clap.specs.Walk.{is_empty}
+use Rattle.clap.specs.declared.builder.action.ArgAction.TheVariants.{Set}
+use Rattle.graphite_base.specs.Numbers.{number_in}
+use Rattle.graphite_api.specs.declared.TheConstants.{STEP_LIMIT}
+use Rattle.graphite_time.specs.declared.TheConstants.{LAST}
+use Rattle.graphite_words.specs.declared.table.Command.{Command}
+use Rattle.graphite_words.specs.declared.query.Report.{Report}
+use Rattle.graphite_words.specs.declared.query.Report.TheVariants.{Intervals, Sums, At}
+use Rattle.graphite_words.specs.Table.{PlainRow, command_of, row_of}
+
+-- ---- how the words are read
+
+-- an option that takes one value
+abbrev pub option_rule : Text → Rule
+option_rule name = record (new_rule name) { long = Some name; action = Some Set }
+
+-- the command that `clap` reads: the word of a program, and options
+unfoldable pub graphite_command : App
+graphite_command =
+    with_rule (with_rule (with_rule (with_rule (with_rule (with_rule (new_app (codes "graphite"))
+    (new_rule (codes "program")))
+    (option_rule (codes "source")))
+    (option_rule (codes "key")))
+    (option_rule (codes "steps")))
+    (option_rule (codes "report")))
+    (option_rule (codes "at"))
+
+-- `-` or `--`
+abbrev pub is_dashes : Text → Bool
+is_dashes word = bytes_eq word (codes "-") || bytes_eq word (codes "--")
+
+-- what is found in a line, which begins with the name of the program; none where the line has a fault
+unfoldable pub matches_in : List Text → Option (List Match)
+matches_in line = if is_empty (fault_of graphite_command line) then Some (matches_of graphite_command line) else None
+
+-- the word of a program, and the value of each option
+pub record PlainGiven : Type 0 where
+  pub program : Option Text
+  pub source : Option Text
+  pub key : Option Text
+  pub steps : Option Text
+  pub report : Option Text
+  pub at : Option Text
+
+-- what the words give
+abbrev pub given_in : List Match → PlainGiven
+given_in found = record {
+  program = first_of (codes "program") found;
+  source = first_of (codes "source") found;
+  key = first_of (codes "key") found;
+  steps = first_of (codes "steps") found;
+  report = first_of (codes "report") found;
+  at = first_of (codes "at") found;
+}
+
+-- ---- what is asked for
+
+-- A program, with the options that it takes: the name of the vertex to start from, the key of the property to read, and
+-- the number of supersteps allowed.
+pub record PlainQuery : Type 0 where
+  pub command : Command
+  pub vertex : Option Text
+  pub key : Option Text
+  pub steps : Option ℕ
+  pub report : Report
+
+-- an option is given exactly where it is wanted
+abbrev pub is_as_wanted : Bool → Option Text → Bool
+is_as_wanted wanted value = if wanted then is_some value else is_none value
+
+-- an option is given only where it is taken
+abbrev pub is_taken : Bool → Option Text → Bool
+is_taken taken value = is_none value || taken
+
+-- each option that is given is in the row, and each that is wanted is given
+abbrev pub takes : PlainRow → PlainGiven → Bool
+takes row given = is_as_wanted row.wants_source given.source && is_as_wanted row.wants_key given.key
+    && is_taken row.takes_steps given.steps && is_taken row.takes_report given.report && is_taken row.takes_report given.at
+
+-- the number of supersteps that a value says: a canonical decimal from 1 to the limit of supersteps
+abbrev pub steps_in : Text → Option ℕ
+steps_in value = option_and_then (λ n. if n == 0 then None else Some n) (number_in STEP_LIMIT value)
+
+-- the number of supersteps allowed, where it is given
+abbrev pub steps_of : Option Text → Option (Option ℕ)
+steps_of None = Some None
+steps_of (Some value) = option_map Some (steps_in value)
+
+-- the kind of report that a value names
+abbrev pub kind_in : Text → Option Report
+kind_in value = if bytes_eq value (codes "intervals") then Some Intervals
+    else (if bytes_eq value (codes "sums") then Some Sums else None)
+
+-- the report of the instant that a value says
+abbrev pub instant_in : Text → Option Report
+instant_in value = option_map At (number_in LAST value)
+
+-- the report, by its kind or its instant, which are not both given
+abbrev pub report_of : (kind instant : Option Text) → Option Report
+report_of None None = Some Intervals
+report_of (Some value) None = kind_in value
+report_of None (Some value) = instant_in value
+report_of (Some value) (Some other) = None
+
+-- a program with what is given, where its row takes that
+abbrev pub query_with : Command → PlainGiven → Option PlainQuery
+query_with command given = if takes (row_of command) given
+    then option_and_then (λ steps. option_map (λ report. record {
+      command = command;
+      vertex = given.source;
+      key = given.key;
+      steps = steps;
+      report = report;
+    }) (report_of given.report given.at)) (steps_of given.steps)
+    else None
+
+-- what is asked for by what is given
+abbrev pub query_by : PlainGiven → Option PlainQuery
+query_by given = option_and_then (λ command. query_with command given) (option_and_then command_of given.program)
+
+-- what the words after the program's name ask for; none where they are refused
+abbrev pub query_of : List Text → Option PlainQuery
+query_of words = if list_any is_dashes words then None
+    else option_and_then (λ found. query_by (given_in found)) (matches_in (codes "graphite" ∷ words))

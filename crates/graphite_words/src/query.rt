@@ -1,0 +1,100 @@
+//! What the words ask for: a program of the table, and the options that it takes.
+ghost use Rattle.std.specs.Prelude.{◌≡◌, ◌≤◌, ℕ, None, Some, map, option_map, string_bytes, IfOk, IsErrOf, IsSome, IsTrue};
+ghost use Rattle.graphite_time.specs.declared.TheConstants.{LAST};
+ghost use Rattle.graphite_words.specs.Query.{plain_given, plain_query};
+ghost use Rattle.graphite_words.specs.Table.{row_of};
+ghost use Rattle.graphite_words.specs.Words.{query_by, query_of, query_with};
+
+use crate::fault::WordsFault;
+use crate::given::Given;
+use crate::parse::{has_dashes, line_of, matches_in};
+use crate::steps::Steps;
+use crate::table::{Command, command_of, row_of};
+use crate::values::{report_of, steps_of};
+use graphite_base::Bytes;
+use graphite_time::NoMemory;
+use std::alloc::Global;
+
+/// What a report says of the answer.
+#[derive(Clone, Copy, Debug, PartialEq, Eq)]
+pub enum Report {
+    /// The value of each vertex in each interval of its life.
+    Intervals,
+    /// The sums of the values in each interval.
+    Sums,
+    /// The value of each vertex at an instant.
+    At(u64),
+}
+
+/// What the words ask for: a program with the options that it takes.
+#[derive(Drop, PartialEq, Eq)]
+pub struct Query {
+    pub command: Command,
+    /// The name of the vertex to start from.
+    pub vertex: Option<Bytes>,
+    /// The key of the property to read.
+    pub key: Option<Bytes>,
+    /// The number of supersteps allowed.
+    pub steps: Option<Steps>,
+    pub report: Report,
+}
+
+/// What the words ask for, which are those after the program's own name. They are refused exactly where
+/// one is `-` or `--` alone, where `clap` finds a fault in them, a request for help among those, or
+/// where the program that they name does not take the options that they give, or is not in the table. A
+/// name or a key is taken as it is.
+pub fn query_of(alloc: Global, words: &[String]) -> Result<Query, WordsFault>
+    ensures asked { IfOk result (λ query. query_of (map string_bytes words.now) ≡ Some (plain_query query)) }
+    ensures refused { IsErrOf result WordsFault.Refused → query_of (map string_bytes words.now) ≡ None }
+
+    // What is wanted is there, and an instant is in time.
+    ensures vertex { IfOk result (λ query. IsTrue (row_of query.command).wants_source → IsSome query.vertex) }
+    ensures key { IfOk result (λ query. IsTrue (row_of query.command).wants_key → IsSome query.key) }
+    ensures instant { (t : ℕ) → IfOk result (λ query. query.report ≡ Report.At t → t ≤ LAST) }
+{
+    if has_dashes(words) {
+        return Err(WordsFault::Refused);
+    }
+    let line = line_of(alloc, words)?;
+    let matches = matches_in(alloc, &line)?;
+    query_by(alloc, Given::of_matches(&matches))
+}
+
+/// What is asked for by what is given.
+fn query_by(alloc: Global, given: Given<'_>) -> Result<Query, WordsFault>
+    ensures asked { IfOk result (λ query. query_by (plain_given given.entry) ≡ Some (plain_query query)) }
+    ensures refused { IsErrOf result WordsFault.Refused → query_by (plain_given given.entry) ≡ None }
+{
+    let word = given.program.ok_or(WordsFault::Refused)?;
+    let command = command_of(word.as_bytes()).ok_or(WordsFault::Refused)?;
+    query_with(alloc, command, given)
+}
+
+/// A program with what is given, where its row takes that.
+fn query_with(alloc: Global, command: Command, given: Given<'_>) -> Result<Query, WordsFault>
+    ensures asked { IfOk result (λ query. query_with command (plain_given given.entry) ≡ Some (plain_query query)) }
+    ensures refused { IsErrOf result WordsFault.Refused → query_with command (plain_given given.entry) ≡ None }
+{
+    if !given.fits(row_of(command)) {
+        return Err(WordsFault::Refused);
+    }
+    let steps = steps_of(given.steps)?;
+    let report = report_of(given.report, given.at).ok_or(WordsFault::Refused)?;
+    Ok(Query {
+        command,
+        vertex: bytes_of(alloc, given.source)?,
+        key: bytes_of(alloc, given.key)?,
+        steps,
+        report,
+    })
+}
+
+/// A text of its own, where one is given.
+fn bytes_of(alloc: Global, text: Option<&str>) -> Result<Option<Bytes>, NoMemory>
+    ensures { IfOk result (λ bytes. bytes ≡ option_map (λ t. t.now) text.entry) }
+{
+    match text {
+        Some(text) => Ok(Some(Bytes::from_slice(alloc, text.as_bytes())?)),
+        None => Ok(None),
+    }
+}

@@ -1,0 +1,64 @@
+//! What the values of options say.
+ghost use Rattle.std.specs.Prelude.{◌≡◌, None, Some, option_map, IfOk, IsErrOf};
+ghost use Rattle.graphite_words.specs.Query.{number_given};
+ghost use Rattle.graphite_words.specs.Words.{instant_in, kind_in, report_of, steps_in, steps_of};
+
+use crate::fault::WordsFault;
+use crate::query::Report;
+use crate::steps::Steps;
+use graphite_api::STEP_LIMIT;
+use graphite_base::number_of;
+use graphite_time::LAST;
+
+/// The number of supersteps allowed, where it is given. Refused where its value is no such number.
+pub fn steps_of(value: Option<&str>) -> Result<Option<Steps>, WordsFault>
+    ensures asked { IfOk result (λ steps. steps_of (option_map (λ v. v.now) value.entry) ≡ Some (number_given steps)) }
+    ensures refused { IsErrOf result WordsFault.Refused → steps_of (option_map (λ v. v.now) value.entry) ≡ None }
+{
+    match value {
+        Some(value) => Ok(Some(steps_in(value).ok_or(WordsFault::Refused)?)),
+        None => Ok(None),
+    }
+}
+
+/// The number of supersteps that a value says.
+fn steps_in(value: &str) -> Option<Steps>
+    ensures { number_given result ≡ steps_in value.now }
+{
+    let number = number_of(value.as_bytes(), u64::from(STEP_LIMIT))?;
+    if number == 0 {
+        return None;
+    }
+    Some(Steps::new(number as u32))
+}
+
+/// The report, by its kind or its instant, which are not both given.
+pub fn report_of(kind: Option<&str>, instant: Option<&str>) -> Option<Report>
+    ensures { result ≡ report_of (option_map (λ v. v.now) kind.entry) (option_map (λ v. v.now) instant.entry) }
+{
+    match (kind, instant) {
+        (None, None) => Some(Report::Intervals),
+        (Some(value), None) => kind_in(value),
+        (None, Some(value)) => instant_in(value),
+        (Some(_), Some(_)) => None,
+    }
+}
+
+/// The kind of report that a value names.
+fn kind_in(value: &str) -> Option<Report>
+    ensures { result ≡ kind_in value.now }
+{
+    match value {
+        "intervals" => Some(Report::Intervals),
+        "sums" => Some(Report::Sums),
+        _ => None,
+    }
+}
+
+/// The report of the instant that a value says.
+fn instant_in(value: &str) -> Option<Report>
+    ensures { result ≡ instant_in value.now }
+{
+    let instant = number_of(value.as_bytes(), LAST)?;
+    Some(Report::At(instant))
+}
