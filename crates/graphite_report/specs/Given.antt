@@ -1,0 +1,20 @@
+-- What a writer of a report is given: what its first line says, and pieces for each vertex.
+use Rattle.std.specs.Prelude.{◌≡◌, ℕ, ◌<◌, false, List, [], length, slice_index_or, Option, None}
+use Rattle.graphite_part.specs.declared.piece.Piece.{Piece}
+use Rattle.graphite_part.specs.Pieces.{value_at}
+use Rattle.graphite_text.specs.Graph.{PlainGraph, vertex_is_alive}
+use Rattle.graphite_report.specs.declared.head.Head.{Head}
+use Rattle.graphite_report.specs.Report.{Heading, Values}
+
+-- what the first line says
+abbrev pub heading_of : Head → Heading
+heading_of head = record { program = head.program.now; steps = head.steps; calls = head.calls }
+
+-- what is printed of each vertex, where each has its pieces
+abbrev pub values_in : List (List (Piece (Option ℕ))) → ℕ → Values
+values_in all v t = value_at (slice_index_or all v []) t
+
+-- pieces for each vertex, with nothing at an instant at which it is not alive
+pub record AreOfVertices (graph : PlainGraph) (all : List (List (Piece (Option ℕ)))) : Type 0 where
+  pub len : length all ≡ length graph.vertices
+  pub alive : (v t : ℕ) → v < length graph.vertices → vertex_is_alive graph v t ≡ false → values_in all v t ≡ None
