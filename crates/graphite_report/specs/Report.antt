@@ -1,7 +1,8 @@
--- A report is a text made of runs: a first line, the lines of each vertex in order of declaration, and
--- `end`. A printed value is a number or none; a vertex has one at exactly the instants at which it is
--- alive.
-use Rattle.std.specs.Prelude.{ℕ, ◌+◌, Bool, true, false, ◌==◌, List, [], ◌∷◌, ◌++◌, flat_map, codes, decimal, Option, Some, None}
+-- A report is a text: a first line, the lines of each vertex in order of declaration, and `end`. What is
+-- said of a vertex is a function of its printed values, and these are a function of the instant. A printed
+-- value is a number or none; a vertex has one at exactly the instants at which it is alive.
+use Rattle.std.specs.Prelude.{ℕ, ◌+◌, Bool, true, false, ◌==◌, List, [], ◌∷◌, ◌++◌, flat_map, codes, decimal, Option, Some, None, is_some, unwrap_or, option_and_then, count_by, sum_by}
+use Rattle.std.specs.List.{range_with_len}
 use Rattle.graphite_part.specs.Runs.{Run, runs_of}
 use Rattle.graphite_text.specs.Graph.{PlainVertex, PlainGraph}
 
@@ -25,6 +26,27 @@ abbrev pub value_text : Option ℕ → List ℕ
 value_text None = codes "none"
 value_text (Some n) = decimal n
 
+abbrev pub calls_text : Option ℕ → List ℕ
+calls_text None = []
+calls_text (Some calls) = codes " calls " ++ decimal calls
+
+abbrev pub first_line : Heading → List ℕ
+first_line heading =
+    codes "graphite " ++ heading.program ++ codes " steps " ++ decimal heading.steps ++ calls_text heading.calls ++ codes "\n"
+
+-- the lines of the vertices from a number on, where these are the lines of a vertex with this name and these values
+abbrev pub lines_of_vertices : (List ℕ → Values → List ℕ) → (ℕ → Values) → (first : ℕ) → List PlainVertex → List ℕ
+lines_of_vertices lines values n [] = []
+lines_of_vertices lines values n (vertex ∷ vertices) =
+    lines vertex.name (values n) ++ lines_of_vertices lines values (n + 1) vertices
+
+-- a report that has these lines for a vertex
+abbrev pub report_with : (List ℕ → Values → List ℕ) → Heading → PlainGraph → (ℕ → Values) → List ℕ
+report_with lines heading graph values =
+    first_line heading ++ lines_of_vertices lines values 0 graph.vertices ++ codes "end\n"
+
+-- ---- the intervals report
+
 -- NAME a b VALUE
 abbrev pub run_line : List ℕ → Run (Option ℕ) → List ℕ
 run_line name run =
@@ -34,21 +56,49 @@ run_line name run =
 unfoldable pub vertex_lines : List ℕ → Values → (horizon : ℕ) → List ℕ
 vertex_lines name values horizon = flat_map (run_line name) (runs_of same_value values horizon)
 
--- the lines of the vertices from a number on
-abbrev pub lines_of_vertices : (ℕ → Values) → (horizon : ℕ) → (first : ℕ) → List PlainVertex → List ℕ
-lines_of_vertices values horizon n [] = []
-lines_of_vertices values horizon n (vertex ∷ vertices) =
-    vertex_lines vertex.name (values n) horizon ++ lines_of_vertices values horizon (n + 1) vertices
-
-abbrev pub calls_text : Option ℕ → List ℕ
-calls_text None = []
-calls_text (Some calls) = codes " calls " ++ decimal calls
-
-abbrev pub first_line : Heading → List ℕ
-first_line heading =
-    codes "graphite " ++ heading.program ++ codes " steps " ++ decimal heading.steps ++ calls_text heading.calls ++ codes "\n"
-
 -- the intervals report of a graph whose vertices have these values
 unfoldable pub intervals_report : Heading → PlainGraph → (ℕ → Values) → List ℕ
-intervals_report heading graph values =
-    first_line heading ++ lines_of_vertices values graph.horizon 0 graph.vertices ++ codes "end\n"
+intervals_report heading graph values = report_with (λ name vs. vertex_lines name vs graph.horizon) heading graph values
+
+-- ---- the report of one instant
+
+-- NAME VALUE, where the vertex is alive, and else no line
+abbrev pub instant_lines : List ℕ → Option (Option ℕ) → List ℕ
+instant_lines name None = []
+instant_lines name (Some value) = name ++ codes " " ++ value_text value ++ codes "\n"
+
+-- the report of an instant of a graph whose vertices have these values
+unfoldable pub instant_report : Heading → PlainGraph → (ℕ → Values) → (t : ℕ) → List ℕ
+instant_report heading graph values t = report_with (λ name vs. instant_lines name (vs t)) heading graph values
+
+-- ---- the report of sums
+
+-- the number that is printed at an instant, where one is
+abbrev pub number_at : Values → ℕ → Option ℕ
+number_at values t = option_and_then (λ value. value) (values t)
+
+-- at how many instants below the horizon the vertex is alive
+abbrev pub alive_count : Values → (horizon : ℕ) → ℕ
+alive_count values horizon = count_by (λ t. is_some (values t)) (range_with_len 0 horizon)
+
+-- at how many of them it has a number
+abbrev pub valued_count : Values → (horizon : ℕ) → ℕ
+valued_count values horizon = count_by (λ t. is_some (number_at values t)) (range_with_len 0 horizon)
+
+-- the sum of its numbers over these
+abbrev pub value_sum : Values → (horizon : ℕ) → ℕ
+value_sum values horizon = sum_by (λ t. unwrap_or (number_at values t) 0) (range_with_len 0 horizon)
+
+-- NAME ALIVE VALUED SUM
+abbrev pub totals_line : List ℕ → (alive valued sum : ℕ) → List ℕ
+totals_line name alive valued sum =
+    name ++ codes " " ++ decimal alive ++ codes " " ++ decimal valued ++ codes " " ++ decimal sum ++ codes "\n"
+
+-- the line of a vertex with these values
+unfoldable pub sums_line : List ℕ → Values → (horizon : ℕ) → List ℕ
+sums_line name values horizon =
+    totals_line name (alive_count values horizon) (valued_count values horizon) (value_sum values horizon)
+
+-- the report of the sums of a graph whose vertices have these values
+unfoldable pub sums_report : Heading → PlainGraph → (ℕ → Values) → List ℕ
+sums_report heading graph values = report_with (λ name vs. sums_line name vs graph.horizon) heading graph values

@@ -1,3 +1,19 @@
-//! The texts of reports. The definitions stand in this crate's `specs`: a report is a function of the
-//! values, and the values are functions of the instant.
+//! Reports of the values of a graph's vertices: the intervals on which they are the same, those of one
+//! instant, and their sums. The texts stand in this crate's `specs`: a report is a function of the values,
+//! and the values are functions of the instant.
 #![tactic(auto)]
+
+mod buffer;
+mod fault;
+mod form;
+mod head;
+mod lines;
+mod sums;
+mod writer;
+
+pub use fault::ReportFault;
+pub use head::Head;
+pub use writer::{write_instant, write_intervals, write_sums};
+
+#[cfg(test)]
+mod tests;

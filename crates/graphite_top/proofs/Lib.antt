@@ -1,4 +1,3 @@
 mod WorkedRuns
 pub mod CallLemmas
 pub mod SnapLemmas
-pub mod ThroughLemmas

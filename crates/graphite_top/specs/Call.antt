@@ -1,16 +1,13 @@
 -- What a call did with its source and its sink, by cases on the status that it ended with.
-use Rattle.std.specs.Prelude.{◌≡◌, ℕ, ◌≤◌, ⊤, List, [], length, take, Option, Some, None}
+use Rattle.std.specs.Prelude.{◌≡◌, ℕ, ◌≤◌, ⊤, List, [], length, Option, Some, None}
 use Rattle.std.specs.Io.KnownBytes.{Appends, Keeps}
 use Rattle.graphite_base.specs.Causes.{Rose}
 use Rattle.graphite_base.specs.Known.{IsEmptied}
 use Rattle.graphite_text.specs.Reading.{text_limit}
+use Rattle.graphite_report.specs.Written.{AppendsPrefix}
 use Rattle.graphite_top.specs.declared.status.Status.{Status}
 use Rattle.graphite_top.specs.declared.status.Status.TheVariants.{Done, TextRefused, WordsRefused, QueryRefused, ReadFault, WriteFault, NoMemory}
 use Rattle.graphite_top.specs.Output.{Answer}
-
--- told bytes grew by a prefix of these
-abbrev pub AppendsPrefix : Option (List ℕ) → Option (List ℕ) → List ℕ → Type 0
-AppendsPrefix old new bytes = (n : ℕ) × Appends old new (take n bytes)
 
 -- the status and the text of the answer; a prefix of the text where it could not be written or made,
 -- and nothing where the source failed

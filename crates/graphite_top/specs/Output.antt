@@ -1,20 +1,23 @@
 -- What a call of the program writes, by cases on the words and the text.
-use Rattle.std.specs.Prelude.{ℕ, ◌+◌, ⊤, List, [], ◌++◌, codes, decimal, Option, Some, None, option_map, option_and_then, unwrap_or}
+use Rattle.std.specs.Prelude.{ℕ, ◌+◌, ⊤, ◌⊎◌, nat_lt, IsTrue, if◌then◌else◌, List, [], ◌++◌, codes, decimal, Option, Some, None, option_map, option_and_then, unwrap_or}
 use Rattle.graphite_text.specs.Canonical.{canonical_text}
 use Rattle.graphite_text.specs.Graph.{PlainGraph, vertex_number}
 use Rattle.graphite_text.specs.Reading.{Reading, Accepted, Refused, reading_of}
 use Rattle.graphite_graph.specs.Ends.{lifespan_count}
-use Rattle.graphite_report.specs.Report.{Heading, intervals_report}
+use Rattle.graphite_report.specs.Report.{Heading, Values, intervals_report, instant_report, sums_report}
 use Rattle.graphite_snap.specs.declared.query.SnapQuery.TheVariants as snap
 use Rattle.graphite_snap.specs.Description.{Meaning}
 use Rattle.graphite_snap.specs.Answers.{meaning_of, IsAsked}
 use Rattle.graphite_top.specs.declared.status.Status.{Status}
 use Rattle.graphite_top.specs.declared.status.Status.TheVariants.{Done, TextRefused, WordsRefused, QueryRefused}
 use Rattle.graphite_top.specs.declared.asked.Asked.{Asked}
-use Rattle.graphite_top.specs.declared.asked.Asked.TheVariants.{Text, Snap, NoVertex}
-use Rattle.graphite_top.specs.declared.words.Command.{Command}
-use Rattle.graphite_top.specs.declared.words.Command.TheVariants.{Degree, Bfs, Components, Max, Distance, Rank, Show}
-use Rattle.graphite_top.specs.Words.{PlainQuery, row_of, query_of}
+use Rattle.graphite_top.specs.declared.asked.Asked.TheVariants.{Text, Snap, NoVertex, NoInstant}
+use Rattle.graphite_words.specs.declared.table.Command.{Command}
+use Rattle.graphite_words.specs.declared.table.Command.TheVariants.{Degree, Bfs, Components, Max, Distance, Rank, Show}
+use Rattle.graphite_words.specs.declared.query.Report.{Report}
+use Rattle.graphite_words.specs.declared.query.Report.TheVariants.{Intervals, Sums, At}
+use Rattle.graphite_words.specs.Table.{row_of}
+use Rattle.graphite_words.specs.Words.{PlainQuery, query_of}
 
 -- A status and the text that is written with it.
 pub record Answer : Type 0 where
@@ -25,10 +28,16 @@ pub record Answer : Type 0 where
 abbrev pub snap_heading : List ℕ → (made calls : ℕ) → Heading
 snap_heading word made calls = record { program = word; steps = made; calls = Some calls }
 
--- the report of a program of snapshots with this word that is allowed so many supersteps
-abbrev pub snap_report : PlainGraph → List ℕ → Meaning → ℕ → List ℕ
-snap_report graph word program steps =
-    intervals_report (snap_heading word (program.made graph steps) (program.calls graph steps)) graph (program.printed_at graph steps)
+-- the report of this kind, of a graph whose vertices have these values
+abbrev pub report_text : Report → Heading → PlainGraph → (ℕ → Values) → List ℕ
+report_text Intervals heading graph values = intervals_report heading graph values
+report_text Sums heading graph values = sums_report heading graph values
+report_text (At t) heading graph values = instant_report heading graph values t
+
+-- the report of this kind, of a program of snapshots with this word that is allowed so many supersteps
+abbrev pub snap_report : Report → PlainGraph → List ℕ → Meaning → ℕ → List ℕ
+snap_report report graph word program steps =
+    report_text report (snap_heading word (program.made graph steps) (program.calls graph steps)) graph (program.printed_at graph steps)
 
 -- how many supersteps are allowed where the words do not say it: as many as are usual for the program, or else one more
 -- than the vertices have lifespans
@@ -50,9 +59,9 @@ text_refusal line rule = record {
   text = codes "refused text line " ++ decimal line ++ codes " rule " ++ decimal rule ++ codes "\n";
 }
 
--- the refusal of a query whose source names no vertex of the graph
-abbrev pub query_refusal : Answer
-query_refusal = record { status = QueryRefused; text = codes "refused query 1\n" }
+-- the refusal of a query: 1 where its source names no vertex of the graph, 2 where its instant is not below the horizon
+abbrev pub query_refusal : (number : ℕ) → Answer
+query_refusal number = record { status = QueryRefused; text = codes "refused query " ++ decimal number ++ codes "\n" }
 
 -- what a command asks of a graph, where the source that it was given has this number, or names no vertex, and where it
 -- was given this key
@@ -74,23 +83,45 @@ IsAskedOf graph _ = ⊤
 
 -- the number of the vertex that a query names, if it names one of the graph
 abbrev pub source_of : PlainQuery → PlainGraph → Option ℕ
-source_of query graph = option_and_then (vertex_number graph) query.options.source
+source_of query graph = option_and_then (vertex_number graph) query.vertex
 
 -- the key that a query names; a query without one has the empty key, which no property has
 abbrev pub key_of : PlainQuery → List ℕ
-key_of query = unwrap_or query.options.key []
+key_of query = unwrap_or query.key []
 
--- the answer to what is asked of a graph, by a program with this word that is allowed so many supersteps
-abbrev pub asked_answer : PlainGraph → (word : List ℕ) → (steps : ℕ) → Asked → Answer
-asked_answer graph word steps Text = report_answer (canonical_text graph)
-asked_answer graph word steps (Snap query) = report_answer (snap_report graph word (meaning_of query) steps)
-asked_answer graph word steps NoVertex = query_refusal
+-- what is asked, where the instant that is to be told of is below the horizon
+abbrev pub in_time : Report → (horizon : ℕ) → Asked → Asked
+in_time (At t) horizon (Snap query) = if nat_lt t horizon then Snap query else NoInstant
+in_time report horizon asked = asked
+
+-- what a query asks of a graph: the vertex that it names has to be there, and then its instant to be below the horizon
+abbrev pub asked_of : PlainQuery → PlainGraph → Asked
+asked_of query graph = in_time query.report graph.horizon (asked_by query.command (source_of query graph) (key_of query))
+
+-- a query that a graph can refuse: it names a vertex, or an instant
+abbrev pub GivesInstant : Report → Type 0
+GivesInstant (At t) = ⊤
+GivesInstant report = ⊥
+
+abbrev pub CanBeRefused : Option PlainQuery → Type 0
+CanBeRefused None = ⊥
+CanBeRefused (Some query) = IsTrue (row_of query.command).wants_source ⊎ GivesInstant query.report
+
+-- how many supersteps a query allows
+abbrev pub steps_of : PlainQuery → PlainGraph → ℕ
+steps_of query graph = unwrap_or query.steps (usual_steps (row_of query.command).usual_steps graph)
+
+-- the answer to what is asked of a graph, by a query for a report of this kind and a program with this word that is
+-- allowed so many supersteps
+abbrev pub asked_answer : PlainGraph → Report → (word : List ℕ) → (steps : ℕ) → Asked → Answer
+asked_answer graph report word steps Text = report_answer (canonical_text graph)
+asked_answer graph report word steps (Snap query) = report_answer (snap_report report graph word (meaning_of query) steps)
+asked_answer graph report word steps NoVertex = query_refusal 1
+asked_answer graph report word steps NoInstant = query_refusal 2
 
 -- the answer to a query for a graph
 abbrev pub graph_answer : PlainQuery → PlainGraph → Answer
-graph_answer query graph =
-    asked_answer graph (row_of query.command).word (unwrap_or query.options.steps (usual_steps (row_of query.command).usual_steps graph))
-    (asked_by query.command (source_of query graph) (key_of query))
+graph_answer query graph = asked_answer graph query.report (row_of query.command).word (steps_of query graph) (asked_of query graph)
 
 -- the answer to what the reading of a text gives
 abbrev pub reading_answer : PlainQuery → Reading → Answer

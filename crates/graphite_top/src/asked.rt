@@ -1,15 +1,15 @@
 //! What is asked of a graph.
 ghost use Rattle.std.specs.Prelude.{◌≡◌, ◌<◌, ℕ, length, unwrap_or, [], IfOk, IfSome, IsTrue};
 ghost use Rattle.graphite_text.specs.Graph.{PlainGraph};
-ghost use Rattle.graphite_top.specs.Output.{asked_by, key_of, source_of, IsAskedOf};
-ghost use Rattle.graphite_top.specs.Query.{plain_query};
-ghost use Rattle.graphite_top.specs.Words.{row_of, NamesSource};
+ghost use Rattle.graphite_words.specs.Query.{plain_query};
+ghost use Rattle.graphite_words.specs.Table.{row_of};
+ghost use Rattle.graphite_top.specs.Output.{asked_by, asked_of, in_time, key_of, source_of, CanBeRefused, IsAskedOf};
 
-use crate::words::{Command, Query};
 use graphite_base::Bytes;
 use graphite_graph::Graph;
 use graphite_snap::SnapQuery;
 use graphite_time::NoMemory;
+use graphite_words::{Command, Query, Report};
 use std::alloc::Global;
 
 /// What a query asks of a graph.
@@ -21,25 +21,54 @@ pub enum Asked {
     Snap(SnapQuery),
     /// To start from a vertex that the graph does not have.
     NoVertex,
+    /// To tell of an instant that is not below the graph's horizon.
+    NoInstant,
 }
 
 /// What a query asks of a graph. Refused only where memory is short.
-pub fn asked_of(alloc: Global, query: Query<'_>, graph: &Graph<'_>) -> Result<Asked, NoMemory>
-    ensures asked { IfOk result (λ asked. asked
-        ≡ asked_by query.entry.command (source_of (plain_query query.entry) graph.now) (key_of (plain_query query.entry))) }
+pub fn asked_of(alloc: Global, query: &Query, graph: &Graph<'_>) -> Result<Asked, NoMemory>
+    ensures asked { IfOk result (λ asked. asked ≡ asked_of (plain_query query.now) graph.now) }
     ensures in_range { IfOk result (IsAskedOf graph.now) }
-    ensures no_vertex { IfOk result (λ asked. asked ≡ Asked.NoVertex → NamesSource (Some (plain_query query.entry))) }
+    ensures no_vertex { IfOk result (λ asked. asked ≡ Asked.NoVertex → CanBeRefused (Some (plain_query query.now))) }
+    ensures no_instant { IfOk result (λ asked. asked ≡ Asked.NoInstant → CanBeRefused (Some (plain_query query.now))) }
 {
-    let key = query.options.key.unwrap_or(&[]);
-    asked_by(alloc, query.command, source_of(query, graph), key)
+    let asked = asked_by(alloc, query.command, source_of(query, graph), key_of(query))?;
+    Ok(in_time(query.report, graph.horizon(), asked))
+}
+
+/// What is asked, where the instant that is to be told of is below the horizon.
+fn in_time(report: Report, horizon: u64, asked: Asked) -> Asked
+    ensures { result ≡ in_time report horizon asked }
+{
+    match (report, asked) {
+        (Report::At(t), Asked::Snap(program)) => {
+            if t < horizon {
+                Asked::Snap(program)
+            } else {
+                Asked::NoInstant
+            }
+        }
+        (_, asked) => asked,
+    }
+}
+
+/// The key that a query names; a query without one has the empty key, which no property has.
+fn key_of(query: &Query) -> &[u8]
+    ensures { result.now ≡ key_of (plain_query query.now) }
+{
+    match &query.key {
+        Some(key) => key.as_slice(),
+        None => &[],
+    }
 }
 
 /// The number of the vertex that a query names, if it names one of the graph.
-fn source_of(query: Query<'_>, graph: &Graph<'_>) -> Option<u32>
-    ensures number { result ≡ source_of (plain_query query.entry) graph.now }
+fn source_of(query: &Query, graph: &Graph<'_>) -> Option<u32>
+    ensures number { result ≡ source_of (plain_query query.now) graph.now }
     ensures in_range { IfSome result (λ v. v < length graph.now.vertices) }
 {
-    graph.find_vertex(query.options.source?)
+    let name = query.vertex.as_ref()?;
+    graph.find_vertex(name.as_slice())
 }
 
 /// What a command asks, where the source that it was given has this number, or names no vertex, and

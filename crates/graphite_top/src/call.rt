@@ -5,20 +5,20 @@ ghost use Rattle.graphite_base.specs.Causes.{Rose};
 ghost use Rattle.graphite_base.specs.Known.{IsEmptied};
 ghost use Rattle.graphite_text.specs.Canonical.{canonical_text};
 ghost use Rattle.graphite_text.specs.Reading.{text_limit};
-ghost use Rattle.graphite_top.specs.Output.{graph_answer, output_of, query_refusal, report_answer, text_answer, text_refusal, usual_steps, words_refusal};
-ghost use Rattle.graphite_top.specs.Query.{number_given, plain_query};
-ghost use Rattle.graphite_top.specs.Words.{NamesSource, query_of};
+ghost use Rattle.graphite_top.specs.Output.{graph_answer, output_of, query_answer, query_refusal, report_answer, text_answer, steps_of, text_refusal, usual_steps, words_refusal, CanBeRefused};
+ghost use Rattle.graphite_words.specs.Query.{number_given, plain_query};
+ghost use Rattle.graphite_words.specs.Table.{row_of};
+ghost use Rattle.graphite_words.specs.Words.{query_of};
 ghost use Rattle.graphite_top.specs.Call.{Answers, Writes, Gives, IsWritten, IsReadThrough};
 
 use crate::Status;
 use crate::asked::{Asked, asked_of};
-use crate::snap::write_snap;
-use crate::steps::Steps;
-use crate::words::{Query, Row, query_of, row_of};
+use crate::snap::{Telling, write_snap};
 use graphite_base::{ReadText, Sink, Source, TEXT_LIMIT, push_number, read_text, write_all};
 use graphite_graph::{Graph, LoadFault, load};
 use graphite_text::LENGTH_RULE;
 use graphite_time::NoMemory;
+use graphite_words::{Query, Row, Steps, WordsFault, query_of, row_of};
 use std::alloc::Global;
 
 /// Does what the words ask for with the text of the source, and writes the report or the refusal to
@@ -47,7 +47,7 @@ pub fn run<S: Source, K: Sink>(
     ensures nothing_written { result ≡ Status.ReadFault → Keeps (K.written sink.old) (K.written sink.new) }
     ensures write_fault { result ≡ Status.WriteFault → Rose (K.faults sink.old) (K.faults sink.new) }
     ensures words_refused { result ≡ Status.WordsRefused → query_of (map string_bytes words.now) ≡ None }
-    ensures query_refused { result ≡ Status.QueryRefused → NamesSource (query_of (map string_bytes words.now)) }
+    ensures query_refused { result ≡ Status.QueryRefused → CanBeRefused (query_of (map string_bytes words.now)) }
 
     // What becomes of the source.
     ensures untouched { query_of (map string_bytes words.now) ≡ None → source.new ≡ source.old }
@@ -56,9 +56,35 @@ pub fn run<S: Source, K: Sink>(
     // No count of faults falls.
     ensures later { (S.faults source.old ≤ S.faults source.new) × (K.faults sink.old ≤ K.faults sink.new) }
 {
-    let Some(query) = query_of(words) else {
-        return write(sink, b"refused words\n", Status::WordsRefused);
-    };
+    match query_of(alloc, words) {
+        Ok(query) => answer_source(alloc, &query, source, sink),
+        Err(WordsFault::Refused) => write(sink, b"refused words\n", Status::WordsRefused),
+        Err(WordsFault::NoMemory) => Status::NoMemory,
+    }
+}
+
+/// Reads the source and writes the answer to a query.
+fn answer_source<S: Source, K: Sink>(
+    alloc: Global,
+    query: &Query,
+    source: &mut S,
+    sink: &mut K,
+) -> Status
+    ensures answer { IfSome (query_answer (Some (plain_query query.now)) (S.left source.old))
+        (λ answer. Answers result answer (K.written sink.old) (K.written sink.new)) }
+    ensures complete { ¬ Rose (S.faults source.old) (S.faults source.new)
+        → ¬ Rose (K.faults sink.old) (K.faults sink.new)
+        → result ≢ Status.NoMemory
+        → IfSome (query_answer (Some (plain_query query.now)) (S.left source.old))
+        (λ answer. Gives result answer (K.written sink.old) (K.written sink.new)) }
+    ensures read_fault { result ≡ Status.ReadFault → Rose (S.faults source.old) (S.faults source.new) }
+    ensures nothing_written { result ≡ Status.ReadFault → Keeps (K.written sink.old) (K.written sink.new) }
+    ensures write_fault { result ≡ Status.WriteFault → Rose (K.faults sink.old) (K.faults sink.new) }
+    ensures words_accepted { result ≢ Status.WordsRefused }
+    ensures query_refused { result ≡ Status.QueryRefused → CanBeRefused (Some (plain_query query.now)) }
+    ensures emptied { IsReadThrough result (S.left source.old) (S.left source.new) }
+    ensures later { (S.faults source.old ≤ S.faults source.new) × (K.faults sink.old ≤ K.faults sink.new) }
+{
     match read_text(alloc, source, TEXT_LIMIT) {
         Ok(text) => answer_text(alloc, query, &text, sink),
         Err(ReadText::TooLong) => refuse_text(alloc, 0, LENGTH_RULE, sink),
@@ -68,9 +94,9 @@ pub fn run<S: Source, K: Sink>(
 }
 
 /// Writes the answer to a text.
-fn answer_text<K: Sink>(alloc: Global, query: Query<'_>, text: &[u8], sink: &mut K) -> Status
-    ensures writes { Writes result (text_answer (plain_query query.entry) text.now) (K.written sink.old) (K.written sink.new) (K.faults sink.old) (K.faults sink.new) }
-    ensures query_refused { result ≡ Status.QueryRefused → NamesSource (Some (plain_query query.entry)) }
+fn answer_text<K: Sink>(alloc: Global, query: &Query, text: &[u8], sink: &mut K) -> Status
+    ensures writes { Writes result (text_answer (plain_query query.now) text.now) (K.written sink.old) (K.written sink.new) (K.faults sink.old) (K.faults sink.new) }
+    ensures query_refused { result ≡ Status.QueryRefused → CanBeRefused (Some (plain_query query.now)) }
     ensures later { K.faults sink.old ≤ K.faults sink.new }
 {
     match load(alloc, text) {
@@ -81,20 +107,31 @@ fn answer_text<K: Sink>(alloc: Global, query: Query<'_>, text: &[u8], sink: &mut
 }
 
 /// Writes the answer to a query for a graph.
-fn report<K: Sink>(alloc: Global, query: Query<'_>, graph: &Graph<'_>, sink: &mut K) -> Status
-    ensures writes { Writes result (graph_answer (plain_query query.entry) graph.now) (K.written sink.old) (K.written sink.new) (K.faults sink.old) (K.faults sink.new) }
-    ensures query_refused { result ≡ Status.QueryRefused → NamesSource (Some (plain_query query.entry)) }
+fn report<K: Sink>(alloc: Global, query: &Query, graph: &Graph<'_>, sink: &mut K) -> Status
+    ensures writes { Writes result (graph_answer (plain_query query.now) graph.now) (K.written sink.old) (K.written sink.new) (K.faults sink.old) (K.faults sink.new) }
+    ensures query_refused { result ≡ Status.QueryRefused → CanBeRefused (Some (plain_query query.now)) }
     ensures later { K.faults sink.old ≤ K.faults sink.new }
 {
     match asked_of(alloc, query, graph) {
         Ok(Asked::Text) => write_shown(alloc, graph, sink),
-        Ok(Asked::Snap(program)) => {
-            let row = row_of(query.command);
-            let steps = query.options.steps.unwrap_or(usual_steps(row, graph));
-            write_snap(alloc, graph, row.word, &program, steps, sink)
-        }
+        Ok(Asked::Snap(program)) => write_snap(alloc, graph, &program, telling(query, graph), sink),
         Ok(Asked::NoVertex) => write(sink, b"refused query 1\n", Status::QueryRefused),
+        Ok(Asked::NoInstant) => write(sink, b"refused query 2\n", Status::QueryRefused),
         Err(_) => Status::NoMemory,
+    }
+}
+
+/// What is to be told of the program of a query.
+fn telling(query: &Query, graph: &Graph<'_>) -> Telling
+    ensures word { result.word.now ≡ (row_of query.now.command).word }
+    ensures steps { result.steps.number ≡ steps_of (plain_query query.now) graph.now }
+    ensures report { result.report ≡ query.now.report }
+{
+    let row = row_of(query.command);
+    Telling {
+        word: row.word,
+        steps: query.steps.unwrap_or(usual_steps(row, graph)),
+        report: query.report,
     }
 }
 

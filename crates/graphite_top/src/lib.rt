@@ -3,11 +3,8 @@
 
 mod asked;
 mod call;
-mod report;
 mod snap;
 mod status;
-mod steps;
-mod words;
 
 pub use call::run;
 pub use status::Status;

@@ -10,7 +10,8 @@ pub enum Status {
     TextRefused,
     /// The words are no command; a refusal was written, and the source was not touched.
     WordsRefused,
-    /// The text was accepted, and its graph has not the vertex that the words name; a refusal was written.
+    /// The text was accepted, and its graph has not the vertex that the words name, or ends before the instant
+    /// that they give; a refusal was written.
     QueryRefused,
     /// A read failed; nothing was written.
     ReadFault,

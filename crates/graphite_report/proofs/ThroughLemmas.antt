@@ -4,9 +4,8 @@ use Rattle.std.specs.Io.KnownBytes.{Appends}
 use Rattle.std.proofs.KnownBytes.{Appends-trans}
 use Rattle.std.proofs.lemmas.List.{take_at, take-append-drop}
 use Rattle.graphite_base.specs.Known.{AppendsPart}
-use Rattle.graphite_top.specs.Call.{AppendsPrefix}
-use Rattle.graphite_top.specs.Through.{Through}
-use Rattle.graphite_top.specs.Report.{Sends}
+use Rattle.graphite_report.specs.Written.{AppendsPrefix}
+use Rattle.graphite_report.specs.Through.{Through, Sends}
 
 pub Appends-none : (old : Option (List ℕ)) → Appends old old []
 Appends-none None = tt

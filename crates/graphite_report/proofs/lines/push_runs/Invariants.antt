@@ -1,7 +1,7 @@
 use Rattle.std.proofs.Common.{◌≡◌, ◌++◌, map, flat_map, take}
 use Rattle.graphite_part.specs.Pieces.{run_of}
 use Rattle.graphite_report.specs.Report.{run_line}
-use Rattle.graphite_top.proofs.report.push_lines.Given as goal
+use Rattle.graphite_report.proofs.lines.push_runs.Given as goal
 
 abbrev pub invariant-loop-piece : goal.invariant-loop-piece
 invariant-loop-piece l =

@@ -1,0 +1,4 @@
+pub mod LineLemmas
+pub mod SumLemmas
+pub mod ThroughLemmas
+mod WorkedReports

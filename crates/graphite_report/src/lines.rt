@@ -1,0 +1,110 @@
+//! The lines of a report, appended to a buffer.
+ghost use Rattle.std.specs.Prelude.{◌≡◌, ◌++◌, map, flat_map, OnOk};
+ghost use Rattle.graphite_part.specs.Pieces.{run_of, value_at};
+ghost use Rattle.graphite_report.specs.Given.{heading_of};
+ghost use Rattle.graphite_report.specs.Report.{calls_text, first_line, instant_lines, run_line, totals_line, value_text};
+
+use crate::Head;
+use crate::sums::Totals;
+use graphite_base::push_number;
+use graphite_part::{Partition, Piece};
+use graphite_time::NoMemory;
+
+/// Appends what the first line says of the calls.
+fn push_calls(into: &mut Vec<u8>, calls: Option<u128>) -> Result<(), NoMemory>
+    ensures { OnOk result (into.new.items ≡ into.old.items ++ calls_text calls) }
+{
+    if let Some(calls) = calls {
+        into.extend_from_slice(b" calls ")?;
+        push_number(into, calls)?;
+    }
+    Ok(())
+}
+
+/// Appends the first line.
+pub fn push_first_line(into: &mut Vec<u8>, head: &Head<'_>) -> Result<(), NoMemory>
+    ensures { OnOk result (into.new.items ≡ into.old.items ++ first_line (heading_of head.now)) }
+{
+    into.extend_from_slice(b"graphite ")?;
+    into.extend_from_slice(head.program)?;
+    into.extend_from_slice(b" steps ")?;
+    push_number(into, u128::from(head.steps))?;
+    push_calls(into, head.calls)?;
+    into.extend_from_slice(b"\n")?;
+    Ok(())
+}
+
+/// Appends a value as it is printed.
+fn push_value(into: &mut Vec<u8>, value: Option<u64>) -> Result<(), NoMemory>
+    ensures { OnOk result (into.new.items ≡ into.old.items ++ value_text value) }
+{
+    match value {
+        Some(number) => push_number(into, u128::from(number))?,
+        None => into.extend_from_slice(b"none")?,
+    }
+    Ok(())
+}
+
+/// Appends the line that says that a vertex has a value throughout a piece.
+fn push_run(into: &mut Vec<u8>, name: &[u8], piece: Piece<Option<u64>>) -> Result<(), NoMemory>
+    ensures { OnOk result (into.new.items ≡ into.old.items ++ run_line name.now (run_of piece)) }
+{
+    into.extend_from_slice(name)?;
+    into.extend_from_slice(b" ")?;
+    push_number(into, u128::from(piece.over.a()))?;
+    into.extend_from_slice(b" ")?;
+    push_number(into, u128::from(piece.over.b()))?;
+    into.extend_from_slice(b" ")?;
+    push_value(into, piece.value)?;
+    into.extend_from_slice(b"\n")?;
+    Ok(())
+}
+
+/// Appends the lines of a vertex that has these values.
+pub fn push_runs(
+    into: &mut Vec<u8>,
+    name: &[u8],
+    pieces: &[Piece<Option<u64>>],
+) -> Result<(), NoMemory>
+    ensures { OnOk result (into.new.items
+        ≡ into.old.items ++ flat_map (run_line name.now) (map run_of pieces.now)) }
+{
+    for piece in pieces {
+        push_run(into, name, *piece)?;
+    }
+    Ok(())
+}
+
+/// Appends the line that says which value a vertex has at an instant, where it has one.
+pub fn push_instant(
+    into: &mut Vec<u8>,
+    name: &[u8],
+    values: &Partition<Option<u64>>,
+    t: u64,
+) -> Result<(), NoMemory>
+    ensures { OnOk result (into.new.items ≡ into.old.items ++ instant_lines name.now (value_at values.now t)) }
+{
+    if let Some(value) = values.at(t) {
+        into.extend_from_slice(name)?;
+        into.extend_from_slice(b" ")?;
+        push_value(into, value)?;
+        into.extend_from_slice(b"\n")?;
+    }
+    Ok(())
+}
+
+/// Appends the line of the totals of a vertex.
+pub fn push_totals(into: &mut Vec<u8>, name: &[u8], totals: Totals) -> Result<(), NoMemory>
+    ensures { OnOk result (into.new.items
+        ≡ into.old.items ++ totals_line name.now totals.alive totals.valued totals.sum) }
+{
+    into.extend_from_slice(name)?;
+    into.extend_from_slice(b" ")?;
+    push_number(into, u128::from(totals.alive))?;
+    into.extend_from_slice(b" ")?;
+    push_number(into, u128::from(totals.valued))?;
+    into.extend_from_slice(b" ")?;
+    push_number(into, totals.sum)?;
+    into.extend_from_slice(b"\n")?;
+    Ok(())
+}
