@@ -1,2 +1,3 @@
+mod WorkedWords
 pub mod ParseLemmas
 pub mod QueryLemmas

@@ -1,15 +1,14 @@
 -- What the published definition of `clap` gives for the command of this program.
-use Rattle.std.proofs.Common.{◌≡◌, ◌∙◌, ap, ap₂, sym, refl, subst, List, [], ◌∷◌, Some, None, true, false, inl, inr, if◌then◌else◌, Option, rules}
+use Rattle.std.proofs.Common.{◌≡◌, ◌∙◌, ap, ap₂, sym, refl, subst, List, [], ◌∷◌, Some, None, true, false, inl, inr}
 use Rattle.clap.specs.Words.{AddsArg, App, FailsBy, HasKind, IsAmong, Kinds, Rule, Text, app_of, fault_of, is_simple, is_simple_and_free, kind_of, matches_of, rule_of, with_rule}
 use Rattle.clap.specs.Words.{Row as Match}
-use Rattle.clap.specs.Walk.{is_empty}
 use Rattle.clap.specs.declared.builder.arg.Arg.{Arg}
 use Rattle.clap.specs.declared.builder.command.Command.{Command}
 use Rattle.clap.specs.declared.error.Error.{Error}
 use Rattle.clap.specs.declared.error.kind.ErrorKind.{ErrorKind}
 use Rattle.clap.specs.declared.error.kind.ErrorKind.TheVariants.{OutOfMemory}
 use Rattle.clap.proofs.OnLiterals.{clap_on_literals}
-use Rattle.graphite_words.specs.Words.{graphite_command, matches_in}
+use Rattle.graphite_words.specs.Words.{graphite_command, matches_in, unless_faults}
 
 -- a command with one more argument that is not global
 pub app_added : (old new : Command) (arg : Arg) (app : App) (rule : Rule) → AddsArg old arg new → arg.global ≡ false
@@ -35,12 +34,12 @@ matches_in-passes app line found same passes matches =
     let free : is_simple_and_free app ≡ true = ap is_simple_and_free same ∙ is_free-graphite in
     let none : fault_of graphite_command line ≡ [] = ap (λ a. fault_of a line) (sym same) ∙ passes free in
     let same-found : matches_of graphite_command line ≡ found = ap (λ a. matches_of a line) (sym same) ∙ sym (matches simple) in
-    ap (λ (kinds : Kinds). if is_empty kinds then Some (matches_of graphite_command line) else None) none ∙ ap Some same-found
+    ap (λ faults. unless_faults faults (matches_of graphite_command line)) none ∙ ap Some same-found
 
 -- a line with a fault has none
-none_at_fault : (kind : ErrorKind) (kinds : Kinds) (found : List Match) → IsAmong kind kinds → (if is_empty kinds then Some found else None) ≡ None
+none_at_fault : (kind : ErrorKind) (kinds : Kinds) (found : List Match) → IsAmong kind kinds → unless_faults kinds found ≡ None
 none_at_fault kind [] found among = absurd among
-none_at_fault kind (k ∷ ks) found among = search rules
+none_at_fault kind (k ∷ ks) found among = refl
 
 -- a line that fails, but not for want of memory, has none
 pub matches_in-fails : (app : App) (line : List Text) (error : Error) → app ≡ graphite_command

@@ -3,9 +3,8 @@
 use Rattle.std.specs.Prelude.{ℕ, Bool, true, false, not, ◌||◌, ◌&&◌, ◌==◌, is_none, is_some, List, [], ◌∷◌, codes, Option, Some, None, option_map, option_and_then, if◌then◌else◌}
 use Rattle.std.specs.List.{list_any}
 use Rattle.std.specs.Str.{bytes_eq}
-use Rattle.clap.specs.Words.{App, Rule, Text, fault_of, first_of, matches_of, new_app, new_rule, with_rule}
+use Rattle.clap.specs.Words.{App, Kinds, Rule, Text, fault_of, first_of, matches_of, new_app, new_rule, with_rule}
 use Rattle.clap.specs.Words.{Row as Match}
-use Rattle.clap.specs.Walk.{is_empty}
 use Rattle.clap.specs.declared.builder.action.ArgAction.TheVariants.{Set}
 use Rattle.graphite_base.specs.Numbers.{number_in}
 use Rattle.graphite_api.specs.declared.TheConstants.{STEP_LIMIT}
@@ -36,9 +35,14 @@ graphite_command =
 abbrev pub is_dashes : Text → Bool
 is_dashes word = bytes_eq word (codes "-") || bytes_eq word (codes "--")
 
+-- what is found where no fault is
+abbrev pub unless_faults : Kinds → List Match → Option (List Match)
+unless_faults [] found = Some found
+unless_faults (fault ∷ faults) found = None
+
 -- what is found in a line, which begins with the name of the program; none where the line has a fault
 unfoldable pub matches_in : List Text → Option (List Match)
-matches_in line = if is_empty (fault_of graphite_command line) then Some (matches_of graphite_command line) else None
+matches_in line = unless_faults (fault_of graphite_command line) (matches_of graphite_command line)
 
 -- the word of a program, and the value of each option
 pub record PlainGiven : Type 0 where

@@ -1,94 +1,129 @@
 //! Lists of words, and what they ask for.
 use super::*;
+use graphite_base::Bytes;
+use graphite_time::NoMemory;
 use std::alloc::{AllocError, Global};
 use std::process::Abort;
 use std::test::Fail;
 
-/// A line of words after the program's name, and what it asks for: a program, a vertex, a key, a number
-/// of supersteps and a report.
-type Row<'a> = (
-    &'a str,
-    Command,
-    Option<&'a [u8]>,
-    Option<&'a [u8]>,
-    Option<u32>,
-    Report,
-);
-
-fn words_of(alloc: Global, line: &str) -> Result<Vec<String>, AllocError> {
-    let mut words = Vec::new(alloc);
-    for word in line.split_whitespace() {
-        words.push(String::from_str(alloc, word)?)?;
+fn words_of(alloc: Global, words: &[&str]) -> Result<Vec<String>, AllocError> {
+    let mut all = Vec::new(alloc);
+    for word in words {
+        all.push(String::from_str(alloc, word)?)?;
     }
-    Ok(words)
+    Ok(all)
+}
+
+/// A program with all its intervals reported.
+fn query(command: Command) -> Query {
+    Query {
+        command,
+        vertex: None,
+        key: None,
+        steps: None,
+        report: Report::Intervals,
+    }
+}
+
+/// Breadth-first search from a vertex of this name.
+fn bfs(alloc: Global, name: &[u8], steps: Option<Steps>) -> Result<Query, NoMemory> {
+    Ok(Query {
+        vertex: Some(Bytes::from_slice(alloc, name)?),
+        steps,
+        ..query(Command::Bfs)
+    })
+}
+
+fn expect_query(
+    rt: &impl Abort,
+    alloc: Global,
+    words: &[&str],
+    query: Result<Query, WordsFault>,
+) -> Result<(), Fail> {
+    let words = words_of(alloc, words)?;
+    assert!(rt; query_of(alloc, &words) == query);
+    Ok(())
 }
 
 #[test]
-fn accepted_words(rt: HostRuntime) -> Result<(), Fail> {
+fn words_that_are_accepted(rt: HostRuntime) -> Result<(), Fail> {
     let alloc = rt.alloc();
-    let a: Option<&[u8]> = Some(b"a");
-    let lines = [
+    let one = Some(Steps::new(1));
+    let sums = Query {
+        key: Some(Bytes::from_slice(alloc, b"load")?),
+        report: Report::Sums,
+        ..query(Command::Max)
+    };
+    let at = Query {
+        report: Report::At(3),
+        ..query(Command::Degree)
+    };
+    let last = Query {
+        report: Report::At(17_592_186_044_416),
+        ..query(Command::Degree)
+    };
+    let most = Query {
+        steps: Some(Steps::new(2_097_152)),
+        ..query(Command::Rank)
+    };
+    let cases: [(&[&str], Query); 11] = [
+        (&["degree"], query(Command::Degree)),
+        (&["degree", "--at", "3"], at),
+        (&["degree", "--at", "17592186044416"], last),
+        (&["rank", "--steps", "2097152"], most),
+        (&["bfs", "--source", "a"], bfs(alloc, b"a", None)?),
+        (&["bfs", "--source=a", "--steps=1"], bfs(alloc, b"a", one)?),
         (
-            "degree",
-            Command::Degree,
-            None,
-            None,
-            None,
-            Report::Intervals,
+            &["bfs", "--steps", "1", "--source", "a"],
+            bfs(alloc, b"a", one)?,
         ),
-        ("show", Command::Show, None, None, None, Report::Intervals),
-        (
-            "bfs --source a",
-            Command::Bfs,
-            a,
-            None,
-            None,
-            Report::Intervals,
-        ),
-        (
-            "bfs --source=a --steps=1",
-            Command::Bfs,
-            a,
-            None,
-            Some(1),
-            Report::Intervals,
-        ),
-        (
-            "bfs --steps 1 --source a",
-            Command::Bfs,
-            a,
-            None,
-            Some(1),
-            Report::Intervals,
-        ),
-        (
-            "max --key load --report sums",
-            Command::Max,
-            None,
-            Some(b"load"),
-            None,
-            Report::Sums,
-        ),
-        (
-            "degree --at 3",
-            Command::Degree,
-            None,
-            None,
-            None,
-            Report::At(3),
-        ),
-        (
-            "bfs --source=-x",
-            Command::Bfs,
-            Some(b"-x"),
-            None,
-            None,
-            Report::Intervals,
-        ),
+        (&["bfs", "--source=-x"], bfs(alloc, b"-x", None)?),
+        (&["bfs", "--source="], bfs(alloc, b"", None)?),
+        (&["max", "--key", "load", "--report", "sums"], sums),
+        (&["--report", "intervals", "rank"], query(Command::Rank)),
     ];
-    for (line, command, vertex, key, steps, report) in lines {
-        let words = words_of(alloc, line)?;
-        let query = query_of(alloc, &words);
+    for (words, query) in cases {
+        expect_query(&rt, alloc, words, Ok(query))?;
+    }
+    Ok(())
+}
+
+#[test]
+fn words_that_are_refused(rt: HostRuntime) -> Result<(), Fail> {
+    let cases: [&[&str]; 24] = [
+        // no program of the table, or more words than its own
+        &[],
+        &["frob"],
+        &["degree", "extra"],
+        &["--help"],
+        &["degree", "-h"],
+        &["earliest", "--source", "a"],
+        // an option that is not taken, or is missing
+        &["degree", "--steps", "3"],
+        &["show", "--at", "3"],
+        &["bfs"],
+        &["max", "--source", "a"],
+        &["degree", "--colour", "red"],
+        // no such number
+        &["bfs", "--source", "a", "--steps", "0"],
+        &["bfs", "--source", "a", "--steps", "01"],
+        &["rank", "--steps", "2097153"],
+        &["degree", "--at", "17592186044417"],
+        // no value, or two
+        &["bfs", "--source", "a", "--source", "b"],
+        &["bfs", "--source"],
+        &["bfs", "--source", "-x"],
+        &["bfs", "--source", "--steps"],
+        // dashes alone
+        &["bfs", "--source", "-"],
+        &["degree", "--"],
+        &["--", "degree"],
+        // what to report
+        &["degree", "--report", "paths"],
+        &["degree", "--report", "sums", "--at", "1"],
+    ];
+    for words in cases {
+        expect_query(&rt, rt.alloc(), words, Err(WordsFault::Refused))?;
     }
     Ok(())
 }
