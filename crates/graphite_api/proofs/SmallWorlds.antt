@@ -13,7 +13,7 @@ use Rattle.graphite_api.specs.Values.{Values}
 use Rattle.graphite_api.specs.Attained.{Attains, IsAttainedWithin, IsBestAttained}
 use Rattle.graphite_api.specs.Duration.{IsDurationOf}
 use Rattle.graphite_api.specs.Journey.{IsJourney, journey_value}
-use Rattle.graphite_api.specs.Written.{value_after, CanEnd, IsBefore, IsBestStanding}
+use Rattle.graphite_api.specs.Written.{value_after, CanEnd, IsBefore, IsBestWithoutHops}
 use Rattle.graphite_api.proofs.BestLemmas.{IsBest-is}
 use Rattle.graphite_api.proofs.JourneyLemmas.{asked-journey, journey-asked}
 use Rattle.graphite_api.proofs.ListedHops.{Decides}
@@ -150,7 +150,7 @@ module _ (kind : Kind) (alive : ℕ → ℕ → Bool) (waits : ℕ → ℕ → �
 
 module _ (alive : ℕ → ℕ → Bool) (IsHop : Hop → Type 0) (query : PathQuery) (other : query.kind ≢ Latest) (Best : ℕ → ℕ → ℕ → Type 0) where
   -- no journey without hops leads to another vertex
-  pub not_standing : (v t : ℕ) → query.vertex ≢ v → IsBestStanding alive IsHop query Best v t → ⊥
+  pub not_standing : (v t : ℕ) → query.vertex ≢ v → IsBestWithoutHops alive IsHop query Best v t → ⊥
   not_standing v t far standing = by standing.2.hops (asked-journey alive IsHop query.kind other query.vertex standing.2.at standing.2.hops v t standing.2.leads) standing.2.short
     where
       by : (hops : List Hop) → IsJourney alive IsHop query.vertex standing.2.at hops v t → length hops < 1 → ⊥
@@ -158,7 +158,7 @@ module _ (alive : ℕ → ℕ → Bool) (IsHop : Hop → Type 0) (query : PathQu
       by (hop ∷ hops) leads short = absurd (omega (arith, short))
 
   -- who waits at the query's vertex from an instant of the window on has the best value, where its own is the best
-  pub stands : (at t : ℕ) → query.from ≤ at → at < query.until → Waits alive query.vertex at t → Best query.vertex t (journey_value query.kind at []) → IsBestStanding alive IsHop query Best query.vertex t
+  pub stands : (at t : ℕ) → query.from ≤ at → at < query.until → Waits alive query.vertex at t → Best query.vertex t (journey_value query.kind at []) → IsBestWithoutHops alive IsHop query Best query.vertex t
   stands at t from until waits best = (
     journey_value query.kind at [],
     best,

@@ -1,10 +1,10 @@
 -- The best of values, and where it changes.
-use Rattle.std.proofs.Common.{◌≡◌, refl, sym, ap, subst, ◌∙◌, ℕ, Bool, true, false, not, IsTrue, List, [], ◌∷◌, Option, None, Some, inl, inr, ◌⊎◌, ⊎_elim}
+use Rattle.std.proofs.Common.{◌≡◌, refl, sym, ap, subst, ◌∙◌, ℕ, Bool, true, false, not, IsTrue, List, [], ◌∷◌, Option, None, Some, inl, inr, ◌⊎◌, ⊎_elim, is_some, ◌==◌}
 use Rattle.std.specs.List.{Contains}
 use Rattle.std.proofs.lemmas.Option.{none-some, same_Some}
-use Rattle.std.proofs.lemmas.Bool.{false≢true, cond-true, cond-false, true_from_ne_false, not_from_true}
+use Rattle.std.proofs.lemmas.Bool.{false≢true, cond-true, cond-false, true_from_ne_false, not_from_true, false_from_ne_true, eqb-true}
 use Rattle.graphite_api.specs.Best.{IsBest}
-use Rattle.graphite_api.specs.Values.{Values, AreLawful, better_of, best_of, is_better}
+use Rattle.graphite_api.specs.Values.{Values, AreLawful, better_of, best_of, is_better, best_next}
 use Rattle.graphite_api.proofs.BestLemmas.{IsBest-other, IsBest-one}
 use Rattle.graphite_api.proofs.MemberLemmas.{Contains-first, Contains-later, Contains-cases, Contains-nil}
 
@@ -93,3 +93,11 @@ module _ (values : Values) (lawful : AreLawful values) where
   better_is_new (Some x) (Some y) sends same =
       let as_good : AsGood x y = subst (AsGood x) (sym (same_Some y x same)) (lawful.itself x) in
       absurd (false≢true (sym (not_from_true _ as_good) ∙ sends))
+
+-- in the first superstep a vertex keeps its value, and sends exactly where it has one
+pub first_sends : (good : ℕ → ℕ → Bool) (state : Option ℕ) (group : List ℕ) → best_next good 1 state group ≡ record { state = state; send = is_some state }
+first_sends good state group = refl
+
+-- in a later one it takes the best of its value and the group, and sends exactly where that is better
+pub later_sends : (good : ℕ → ℕ → Bool) (k : ℕ) (state : Option ℕ) (group : List ℕ) → (k ≡ 1 → ⊥) → best_next good k state group ≡ record { state = best_of good state group; send = is_better good state (best_of good state group) }
+later_sends good k state group later = cond-false (k == 1) _ _ (false_from_ne_true (k == 1) (λ (is : (k == 1) ≡ true). later (eqb-true k 1 is)))

@@ -1,4 +1,5 @@
--- A written journey exists wherever there is a best value.
+-- The hops of a written journey exist wherever there is a best value: for all kinds but the latest, where a first of the
+-- hops that can be last is found.
 use Rattle.std.proofs.Common.{◌≡◌, ◌≢◌, refl, sym, ap, subst, ◌∙◌, ℕ, zero, suc, ◌<◌, ◌≤◌, Bool, List, [], ◌∷◌, ◌++◌, length, reverse, Option, None, Some, arith, inl, inr, ◌⊎◌, ⊎_elim}
 use Rattle.std.proofs.lemmas.List.{reverse-reverse}
 use Rattle.std.proofs.lemmas.Bool.{cases_eq}
@@ -7,7 +8,7 @@ use Rattle.graphite_api.specs.declared.kind.Kind.TheVariants.{Reach, Earliest, C
 use Rattle.graphite_api.specs.declared.path_query.PathQuery.{PathQuery}
 use Rattle.graphite_api.specs.Hop.{Hop, arrival, Waits}
 use Rattle.graphite_api.specs.Journey.{IsJourney, IsAsGood, journey_value, IsValueWithin, IsBestWithin, IsBestOverAll}
-use Rattle.graphite_api.specs.Written.{value_after, CanEnd, IsBefore, IsBestStanding, IsWrittenTo}
+use Rattle.graphite_api.specs.Written.{value_after, CanEnd, IsBefore, IsBestWithoutHops, IsWrittenTo}
 use Rattle.graphite_api.proofs.BestLemmas.{IsBest-at}
 use Rattle.graphite_api.proofs.JourneyLemmas.{reverse-cons, journey-more, journey-last, asked-journey, journey-asked, as_good-one}
 use Rattle.graphite_api.proofs.WrittenLemmas.{after-more, best-one}
@@ -36,7 +37,7 @@ module _ (alive : ℕ → ℕ → Bool) (IsHop : Hop → Type 0) (query : PathQu
   AnyValue v t x = (k : ℕ) × IsValueWithin alive IsHop query k v t x
 
   abbrev Standing : (v t : ℕ) → Type 0
-  Standing v t = IsBestStanding alive IsHop query Best v t
+  Standing v t = IsBestWithoutHops alive IsHop query Best v t
 
   abbrev Ends : (v t : ℕ) → Hop → Type 0
   Ends v t hop = CanEnd alive IsHop query.kind Best v t hop
@@ -131,7 +132,7 @@ module _ (alive : ℕ → ℕ → Bool) (IsHop : Hop → Type 0) (query : PathQu
             (hop, last-ends hop v t x (journey_value query.kind at rest) top value is parts.1 parts.2 parts.3)
 
     -- whether a journey without hops has the best value is decided by the best of them
-    pub standing_or_not : (start : ℕ → ℕ → Option ℕ) → ((v t : ℕ) → IsBestWithin alive IsHop query 1 v t (start v t)) → (v t : ℕ) → IsBestStanding alive IsHop query Best v t ⊎ (IsBestStanding alive IsHop query Best v t → ⊥)
+    pub standing_or_not : (start : ℕ → ℕ → Option ℕ) → ((v t : ℕ) → IsBestWithin alive IsHop query 1 v t (start v t)) → (v t : ℕ) → IsBestWithoutHops alive IsHop query Best v t ⊎ (IsBestWithoutHops alive IsHop query Best v t → ⊥)
     standing_or_not start starts v t = by (start v t) (best v t) (starts v t) (are v t)
       where
         by : (o p : Option ℕ) → IsBestWithin alive IsHop query 1 v t o → IsBestOverAll alive IsHop query v t p → Standing v t ⊎ (Standing v t → ⊥)
@@ -148,7 +149,7 @@ module _ (alive : ℕ → ℕ → Bool) (IsHop : Hop → Type 0) (query : PathQu
             (cases_eq s b)
 
     -- the hops of the written journey: of those that can be the last one there is a first, and each departs before it arrives
-    module _ (takes_time : (hop : Hop) → IsHop hop → 1 ≤ hop.time) (stands : (v t : ℕ) → IsBestStanding alive IsHop query Best v t ⊎ (IsBestStanding alive IsHop query Best v t → ⊥)) (first : (v t : ℕ) → (hop : Hop) × CanEnd alive IsHop query.kind Best v t hop → (hop : Hop) × CanEnd alive IsHop query.kind Best v t hop × ((other : Hop) → CanEnd alive IsHop query.kind Best v t other → IsBefore hop other)) where
+    module _ (takes_time : (hop : Hop) → IsHop hop → 1 ≤ hop.time) (stands : (v t : ℕ) → IsBestWithoutHops alive IsHop query Best v t ⊎ (IsBestWithoutHops alive IsHop query Best v t → ⊥)) (first : (v t : ℕ) → (hop : Hop) × CanEnd alive IsHop query.kind Best v t hop → (hop : Hop) × CanEnd alive IsHop query.kind Best v t hop × ((other : Hop) → CanEnd alive IsHop query.kind Best v t other → IsBefore hop other)) where
       written_before : (n v t x : ℕ) → t < n → Best v t x → (hops : List Hop) × IsWrittenTo alive IsHop query Best hops v t
       written_before zero v t x less top = absurd (omega (arith, less))
       written_before (suc n) v t x less top = ⊎_elim (λ (standing : Standing v t). ([], standing)) (λ (none : Standing v t → ⊥).

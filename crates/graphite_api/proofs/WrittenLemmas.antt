@@ -7,7 +7,7 @@ use Rattle.graphite_api.specs.declared.kind.Kind.TheVariants.{Reach, Earliest, C
 use Rattle.graphite_api.specs.declared.path_query.PathQuery.{PathQuery}
 use Rattle.graphite_api.specs.Hop.{Hop, arrival}
 use Rattle.graphite_api.specs.Journey.{IsJourney, IsAskedFor, IsAsGood, journey_value, IsValueWithin, IsBestOverAll}
-use Rattle.graphite_api.specs.Written.{value_after, IsBefore, IsBeforeLate, IsBestStanding, IsWrittenTo, IsWrittenFrom, AreWritten, IsPreferred, IsWritten}
+use Rattle.graphite_api.specs.Written.{value_after, IsBefore, IsBeforeLate, IsBestWithoutHops, IsWrittenTo, IsWrittenFrom, AreWritten, IsPreferred, IsWritten}
 use Rattle.graphite_api.proofs.BestLemmas.{IsBest-one}
 use Rattle.graphite_api.proofs.JourneyLemmas.{reverse-cons, journey-more, journey-last, asked-journey, journey-asked, value-more, as_good-one}
 
@@ -120,7 +120,7 @@ module _ (alive : ℕ → ℕ → Bool) (IsHop : Hop → Type 0) (query : PathQu
 
   module _ (at : ℕ) (from : query.from ≤ at) (until : at < query.until) where
     -- the preferred journey without hops has the best value, where one without hops has it
-    standing-best : (v t : ℕ) → IsAskedFor alive IsHop query.kind query.vertex at [] v t → ((other : ℕ) → query.from ≤ other → other < query.until → IsAskedFor alive IsHop query.kind query.vertex other [] v t → IsPreferred query.kind at other) → IsBestStanding alive IsHop query BestOver v t → BestOver v t (journey_value query.kind at [])
+    standing-best : (v t : ℕ) → IsAskedFor alive IsHop query.kind query.vertex at [] v t → ((other : ℕ) → query.from ≤ other → other < query.until → IsAskedFor alive IsHop query.kind query.vertex other [] v t → IsPreferred query.kind at other) → IsBestWithoutHops alive IsHop query BestOver v t → BestOver v t (journey_value query.kind at [])
     standing-best v t leads preferred standing = by standing.2.hops standing.2.leads standing.2.short standing.2.is
       where
         here : IsValueWithin alive IsHop query 1 v t (journey_value query.kind at [])

@@ -45,7 +45,7 @@ journey_value Cheapest at hops = total_cost hops
 journey_value Fastest at hops = at
 journey_value Latest at hops = first_departure hops at
 
--- the value x is as good as y: the less, but for the fastest and the latest the greater
+-- the value x is as good as y: it is not greater; for the fastest and the latest it is not less
 abbrev pub IsAsGood : Kind → ℕ → ℕ → Type 0
 IsAsGood Reach x y = x ≤ y
 IsAsGood Earliest x y = x ≤ y

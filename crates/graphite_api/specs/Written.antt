@@ -15,8 +15,8 @@ value_after Cheapest x hop = x + hop.cost
 value_after Fastest x hop = x
 value_after Latest x hop = x
 
--- The hop can be the last one of a best journey to v at t: v waits from its arrival to t, and it makes the best value
--- there of the best value where and when it departs.
+-- The hop can be the last one of a best journey to v at t: v waits from its arrival to t, and the best value
+-- where and when it departs becomes by it the best value for v at t.
 pub record CanEnd (alive : ℕ → ℕ → Bool) (IsHop : Hop → Type 0) (kind : Kind) (Best : ℕ → ℕ → ℕ → Type 0) (v t : ℕ) (hop : Hop) : Type 0 where
   pub hops : IsHop hop
   pub to : hop.to ≡ v
@@ -44,26 +44,26 @@ abbrev pub IsBeforeLate : Hop → Hop → Type 0
 IsBeforeLate hop other = (hop.edge < other.edge) ⊎ ((hop.edge ≡ other.edge) × (other.depart ≤ hop.depart))
 
 -- the best value for v at t is that of a journey without hops
-abbrev pub IsBestStanding : (ℕ → ℕ → Bool) → (Hop → Type 0) → PathQuery → (ℕ → ℕ → ℕ → Type 0) → (v t : ℕ) → Type 0
-IsBestStanding alive IsHop query Best v t = (x : ℕ) × Best v t x × IsValueWithin alive IsHop query 1 v t x
+abbrev pub IsBestWithoutHops : (ℕ → ℕ → Bool) → (Hop → Type 0) → PathQuery → (ℕ → ℕ → ℕ → Type 0) → (v t : ℕ) → Type 0
+IsBestWithoutHops alive IsHop query Best v t = (x : ℕ) × Best v t x × IsValueWithin alive IsHop query 1 v t x
 
 -- The hops of the written journey to v at t, its last hop first: none where a journey without hops has the best value;
 -- else the first hop, by edge and then by departure, of those that can be the last, and before it the written journey to
 -- where and when it departs.
 abbrev pub IsWrittenTo : (ℕ → ℕ → Bool) → (Hop → Type 0) → PathQuery → (ℕ → ℕ → ℕ → Type 0) → List Hop → (v t : ℕ) → Type 0
-IsWrittenTo alive IsHop query Best [] v t = IsBestStanding alive IsHop query Best v t
+IsWrittenTo alive IsHop query Best [] v t = IsBestWithoutHops alive IsHop query Best v t
 IsWrittenTo alive IsHop query Best (hop ∷ hops) v t =
-    (IsBestStanding alive IsHop query Best v t → ⊥)
+    (IsBestWithoutHops alive IsHop query Best v t → ⊥)
     × CanEnd alive IsHop query.kind Best v t hop
     × ((other : Hop) → CanEnd alive IsHop query.kind Best v t other → IsBefore hop other)
     × IsWrittenTo alive IsHop query Best hops hop.from hop.depart
 
 -- The same of the latest departure, for v at t, its first hop first: the first by edge, and then the latest by departure,
--- of those that can begin, and after it the written journey from where and when it arrives.
+-- of those that can begin (which all depart at the best value), and after it the written journey from where and when it arrives.
 abbrev pub IsWrittenFrom : (ℕ → ℕ → Bool) → (Hop → Type 0) → PathQuery → (ℕ → ℕ → ℕ → Type 0) → List Hop → (v t : ℕ) → Type 0
-IsWrittenFrom alive IsHop query Best [] v t = IsBestStanding alive IsHop query Best v t
+IsWrittenFrom alive IsHop query Best [] v t = IsBestWithoutHops alive IsHop query Best v t
 IsWrittenFrom alive IsHop query Best (hop ∷ hops) v t =
-    (IsBestStanding alive IsHop query Best v t → ⊥)
+    (IsBestWithoutHops alive IsHop query Best v t → ⊥)
     × CanBegin alive IsHop Best v t hop
     × ((other : Hop) → CanBegin alive IsHop Best v t other → IsBeforeLate hop other)
     × IsWrittenFrom alive IsHop query Best hops hop.to (arrival hop)
@@ -76,8 +76,8 @@ AreWritten alive IsHop query Cheapest Best hops v t = IsWrittenTo alive IsHop qu
 AreWritten alive IsHop query Fastest Best hops v t = IsWrittenTo alive IsHop query Best (reverse hops) v t
 AreWritten alive IsHop query Latest Best hops v t = IsWrittenFrom alive IsHop query Best hops v t
 
--- the instant p is not behind q as the written journey's instant at the query's vertex: the least, but for the fastest
--- and the latest the greatest
+-- p is preferred to q, or is q, as the instant of the written journey at the query's vertex: the lesser one, but for the
+-- fastest and the latest the greater
 abbrev pub IsPreferred : Kind → (p q : ℕ) → Type 0
 IsPreferred Reach p q = p ≤ q
 IsPreferred Earliest p q = p ≤ q

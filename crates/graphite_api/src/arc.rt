@@ -22,7 +22,8 @@ pub struct Arc {
     pub time: u32,
     /// What it costs.
     pub cost: u32,
-    /// The lifespan of the target that an arrival is in.
+    /// The instants of the target at which what is told may hold: for journeys the lifespan that every
+    /// arrival is in, for snapshots the instants of `over`.
     pub stay: Interval,
 }
 

@@ -31,10 +31,13 @@ pub fn the_last_hop_makes_the_best()
         → IsBestAttained values (vertex_is_alive lives) (IsHopOn arcs) start (suc k) v t value }
 {}
 
-/// The first departure. What a value brings along an arc over an interval by the first departure holds
-/// wherever any other departure of the interval leads, and is as good.
+/// The first departure. A value brings something along an arc over an interval, and what it brings by the
+/// first departure holds wherever any other departure of the interval leads, and is as good.
 pub fn the_first_departure_is_enough()
-    ensures { (values : Values) (lives : List (List Interval)) (arc : Arc) (over : Interval) (x : ℕ) (message : Message ℕ)
+    ensures made { (values : Values) (lives : List (List Interval)) (arc : Arc) (over : Interval) (x : ℕ)
+        → StaysAt lives arc → start_of arc.over ≤ start_of over → end_of over ≤ end_of arc.over
+        → (message : Message ℕ) × (first_departure_message values (Some x) arc over ≡ Some message) }
+    ensures good { (values : Values) (lives : List (List Interval)) (arc : Arc) (over : Interval) (x : ℕ) (message : Message ℕ)
         → AreLawful values → All IsLife lives → StaysAt lives arc
         → start_of arc.over ≤ start_of over → end_of over ≤ end_of arc.over
         → first_departure_message values (Some x) arc over ≡ Some message
@@ -42,8 +45,8 @@ pub fn the_first_departure_is_enough()
         → IsTrue (holds message.over t) × IsTrue (values.good message.note (values.extend x depart arc.time arc.cost)) }
 {}
 
-/// And it is the value of a list of hops at every instant at which it holds: of the list that led to the
-/// departure, and that hop.
+/// What is told along an arc is, at every instant at which it holds, the value of a list of hops: of the list
+/// that led to the departure, and that hop.
 pub fn each_message_is_attained()
     ensures { (values : Values) (lives : List (List Interval)) (arcs : List Arc) (start : ℕ → ℕ → Option ℕ)
         (arc : Arc) (over : Interval) (x : ℕ) (message : Message ℕ) (hops : List Hop)
@@ -90,10 +93,15 @@ pub fn best_of_lists_is_best_of_journeys()
         → IsBestOverAll (vertex_is_alive lives) (IsHopOn arcs) query v t value }
 {}
 
-/// Sums that stop at 2^64 - 1 have the best values of the exact sums, where a best one is found within 2^21
-/// hops: the costs are below 2^32.
+/// Sums that stop at 2^64 - 1 have the best values of the exact sums: within up to 2^21 hops, and over all where a best
+/// one is found within so many. The costs are below 2^32.
 pub fn saturating_sums_are_exact()
-    ensures { (lives : List (List Interval)) (arcs : List Arc) (start : ℕ → ℕ → Option ℕ)
+    ensures within { (lives : List (List Interval)) (arcs : List Arc) (start : ℕ → ℕ → Option ℕ)
+        → All (λ arc. arc.cost < 2 ^ 32) arcs → ((v t x : ℕ) → start v t ≡ Some x → x ≡ 0)
+        → (k v t : ℕ) (value : Option ℕ) → k ≤ 2 ^ 21
+        → IsBestAttained saturating_values (vertex_is_alive lives) (IsHopOn arcs) start k v t value
+        → IsBestAttained (values_of Cheapest) (vertex_is_alive lives) (IsHopOn arcs) start k v t value }
+    ensures over_all { (lives : List (List Interval)) (arcs : List Arc) (start : ℕ → ℕ → Option ℕ)
         → All (λ arc. arc.cost < 2 ^ 32) arcs → ((v t x : ℕ) → start v t ≡ Some x → x ≡ 0)
         → (k v t : ℕ) (value : Option ℕ) → k ≤ 2 ^ 21
         → IsBestAttained saturating_values (vertex_is_alive lives) (IsHopOn arcs) start k v t value

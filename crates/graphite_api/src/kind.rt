@@ -1,6 +1,6 @@
 //! The five questions about journeys.
 
-/// What is asked about the journeys to a vertex.
+/// What is asked about the journeys between the vertex of a query and another one.
 #[derive(Clone, Copy, Debug, PartialEq, Eq)]
 pub enum Kind {
     /// Whether there is a journey.

@@ -9,7 +9,7 @@ pub struct PathQuery {
     /// The number of the vertex where the journeys start; for [`Kind::Latest`] of the one where they
     /// end.
     pub vertex: u32,
-    /// The first instant at which a journey may be at that vertex.
+    /// The first instant at which a journey may start there; for [`Kind::Latest`], end there.
     pub from: u64,
     /// The instant after the last one.
     pub until: u64,

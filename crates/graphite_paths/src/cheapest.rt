@@ -10,7 +10,7 @@ use graphite_time::Interval;
 use std::marker::Model;
 
 /// The least sum of the costs of the hops of a journey from a source to each vertex. A sum stops at 2^64 - 1,
-/// which fewer than 2^32 hops never reach. Its states start with 0 where there is a journey without hops.
+/// which fewer than 2^21 hops never reach. Its states start with 0 where there is a journey without hops.
 #[derive(Drop)]
 pub struct Cheapest {
     calls: u128,

@@ -1,4 +1,4 @@
-//! What the programs share of which the lesser value is the better one.
+//! What is shared by the programs for which the lesser value is the better one.
 ghost use Rattle.std.specs.Prelude.{◌≡◌, ◌+◌, nat_le, slice_get, option_map};
 ghost use Rattle.std.specs.List.Sorted.{IsSorted};
 ghost use Rattle.std.specs.Ordering.{nat_cmp};

@@ -51,7 +51,7 @@ fn interval(a: u64, b: u64) -> Result<Interval, Fail> {
     Ok(Interval::new(a, b).ok_or("an empty interval")?)
 }
 
-/// An arc over the instants 0 to 4 that takes 9 of them and costs 7, to a vertex that is alive up to the
+/// An arc over the instants 0 to 4 that takes 9 instants and costs 7, to a vertex that is alive up to the
 /// instant 12.
 fn slow_arc() -> Result<Arc, Fail> {
     Ok(Arc {
