@@ -5,8 +5,8 @@ use Rattle.graphite_base.specs.Causes.{Rose}
 use Rattle.graphite_top.specs.declared.status.Status.{Status}
 use Rattle.graphite_top.specs.declared.status.Status.TheVariants.{NoMemory, QueryRefused, ReadFault, WordsRefused, WriteFault}
 use Rattle.graphite_top.specs.Call.{Answers, Gives, IsReadThrough}
-use Rattle.graphite_top.specs.Output.{output_of}
-use Rattle.graphite_top.specs.Words.{NamesSource, query_of}
+use Rattle.graphite_top.specs.Output.{output_of, CanBeRefused}
+use Rattle.graphite_words.specs.Words.{query_of}
 
 -- the words that come after the program's own name
 abbrev pub words_of : {Z : Type 0} → List (String Z) → List (List ℕ)
@@ -21,6 +21,6 @@ pub record IsAnswered (words : List (List ℕ)) (status : Status) (left left' wr
   pub nothing_written : status ≡ ReadFault → Keeps written written'
   pub write_fault : status ≡ WriteFault → Rose writes writes'
   pub words_refused : status ≡ WordsRefused → query_of words ≡ None
-  pub query_refused : status ≡ QueryRefused → NamesSource (query_of words)
+  pub query_refused : status ≡ QueryRefused → CanBeRefused (query_of words)
   pub emptied : IsReadThrough status left left'
   pub later : (reads ≤ reads') × (writes ≤ writes')

@@ -8,7 +8,7 @@ ghost use Rattle.std.specs.Process.{exit_status};
 ghost use Rattle.std.specs.Vec.Iter.{into_iter_items};
 ghost use Rattle.graphite_top.specs.declared.status.Status.{Status};
 ghost use Rattle.graphite_top.specs.Status.{code_of};
-ghost use Rattle.graphite_top.specs.Words.{query_of};
+ghost use Rattle.graphite_words.specs.Words.{query_of};
 ghost use Rattle.graphite.specs.Served.{IsAnswered, words_of};
 
 use graphite_base::{Sink, Source, StdSink, StdSource};

@@ -8,8 +8,8 @@ use Rattle.graphite_base.proofs.KnownLemmas.{TookJust-length}
 use Rattle.graphite_text.specs.Reading.{Refused, reading_of, text_limit}
 use Rattle.graphite_top.specs.declared.status.Status.{Status}
 use Rattle.graphite_top.specs.declared.status.Status.TheVariants.{Done, TextRefused, WordsRefused, QueryRefused, ReadFault, WriteFault, NoMemory}
-use Rattle.graphite_top.specs.Words.{PlainQuery, query_of}
-use Rattle.graphite_top.specs.Output.{Answer, query_answer, output_of, text_answer, reading_answer, text_refusal}
+use Rattle.graphite_words.specs.Words.{PlainQuery, query_of}
+use Rattle.graphite_top.specs.Output.{Answer, query_answer, output_of, text_answer, reading_answer, text_refusal, words_refusal}
 use Rattle.graphite_top.specs.Call.{Answers, Writes, Gives}
 
 too_long_read : (bytes : List ℕ) → text_limit < length bytes → reading_of bytes ≡ Refused 0 16
@@ -39,15 +39,22 @@ Gives-written ReadFault answer old new before now calm memory w = absurd w
 Gives-written WriteFault answer old new before now calm memory w = absurd (calm w.1)
 Gives-written NoMemory answer old new before now calm memory w = absurd (memory refl)
 
--- what is said of the refusal of a text is said of the output, where more bytes came than a text may have
-pub for_too_long : (P : Answer → Type 0) (words : List (List ℕ)) (query : PlainQuery) (left rest : Option (List ℕ)) → query_of words ≡ Some query → TookJust left rest (text_limit + 1) → P (text_refusal 0 16) → IfSome (output_of words left) P
-for_too_long P words query None rest accepted took h = subst (λ q. IfSome (query_answer q None) P) (sym accepted) tt
-for_too_long P words query (Some bytes) rest accepted took h =
+-- what is said of the refusal of a text is said of the answer to a query, where more bytes came than a text may have
+pub for_too_long : (P : Answer → Type 0) (query : PlainQuery) (left rest : Option (List ℕ)) → TookJust left rest (text_limit + 1) → P (text_refusal 0 16) → IfSome (query_answer (Some query) left) P
+for_too_long P query None rest took h = tt
+for_too_long P query (Some bytes) rest took h =
     let long : text_limit < length bytes = omega (arith, TookJust-length bytes rest (text_limit + 1) took) in
-    subst (λ q. IfSome (query_answer q (Some bytes)) P) (sym accepted) (subst P (sym (too_long query bytes long)) h)
+    subst P (sym (too_long query bytes long)) h
 
--- what is said of the answer to a text is said of the output, where the bytes of the source are that text
-pub for_whole : (P : Answer → Type 0) (words : List (List ℕ)) (query : PlainQuery) (left rest : Option (List ℕ)) (text : List ℕ) → query_of words ≡ Some query → IsWhole left rest text → P (text_answer query text) → IfSome (output_of words left) P
-for_whole P words query None rest text accepted whole h = subst (λ q. IfSome (query_answer q None) P) (sym accepted) tt
-for_whole P words query (Some bytes) rest text accepted whole h =
-    subst (λ q. IfSome (query_answer q (Some bytes)) P) (sym accepted) (subst (λ bs. P (text_answer query bs)) (sym whole.0) h)
+-- what is said of the answer to a text is said of that to a query, where the bytes of the source are that text
+pub for_whole : (P : Answer → Type 0) (query : PlainQuery) (left rest : Option (List ℕ)) (text : List ℕ) → IsWhole left rest text → P (text_answer query text) → IfSome (query_answer (Some query) left) P
+for_whole P query None rest text whole h = tt
+for_whole P query (Some bytes) rest text whole h = subst (λ bs. P (text_answer query bs)) (sym whole.0) h
+
+-- what is said of the answer to a query is said of the output of the words that ask for it
+pub for_query : (P : Answer → Type 0) (words : List (List ℕ)) (query : PlainQuery) (left : Option (List ℕ)) → query_of words ≡ Some query → IfSome (query_answer (Some query) left) P → IfSome (output_of words left) P
+for_query P words query left accepted h = subst (λ q. IfSome (query_answer q left) P) (sym accepted) h
+
+-- what is said of the refusal of words is said of the output of words that are refused
+pub for_refused : (P : Answer → Type 0) (words : List (List ℕ)) (left : Option (List ℕ)) → query_of words ≡ None → P words_refusal → IfSome (output_of words left) P
+for_refused P words left refused h = subst (λ q. IfSome (query_answer q left) P) (sym refused) h

@@ -17,6 +17,8 @@ const STOPS_REPORT: &[u8] =
 
 const NO_SUCH_VERTEX: &[u8] = b"refused query 1\n";
 
+const NO_SUCH_INSTANT: &[u8] = b"refused query 2\n";
+
 fn words_of(alloc: Global, words: &[&str]) -> Result<Vec<String>, AllocError> {
     let mut all = Vec::new(alloc);
     for word in words {
@@ -79,7 +81,7 @@ fn searches(rt: HostRuntime) -> Result<(), Fail> {
             b"graphite bfs steps 4 calls 5\na 0 10 0\nb 0 5 1\nb 5 10 none\nc 2 3 none\nc 3 5 2\nc 5 8 none\nend\n",
         ),
         (
-            &["bfs", "--steps", "1", "--source", "a"],
+            &["bfs", "--source=a", "--steps=1"],
             Status::Done,
             b"graphite bfs steps 1 calls 3\na 0 10 0\nb 0 10 none\nc 2 8 none\nend\n",
         ),
@@ -90,7 +92,7 @@ fn searches(rt: HostRuntime) -> Result<(), Fail> {
         ),
         // a value is taken as it is, also where it looks like an option or is empty
         (
-            &["bfs", "--source", "--steps"],
+            &["bfs", "--source=--steps"],
             Status::QueryRefused,
             NO_SUCH_VERTEX,
         ),
@@ -98,6 +100,48 @@ fn searches(rt: HostRuntime) -> Result<(), Fail> {
             &["bfs", "--source", ""],
             Status::QueryRefused,
             NO_SUCH_VERTEX,
+        ),
+    ];
+    for (words, status, written) in cases {
+        expect_run(&rt, rt.alloc(), words, STOPS, status, written)?;
+    }
+    Ok(())
+}
+
+/// The values at one instant, and their sums.
+#[test]
+fn other_reports(rt: HostRuntime) -> Result<(), Fail> {
+    let cases: [(&[&str], Status, &[u8]); 6] = [
+        (
+            &["degree", "--at", "3"],
+            Status::Done,
+            b"graphite degree steps 0 calls 0\na 1\nb 1\nc 0\nend\n",
+        ),
+        (
+            &["degree", "--at", "9"],
+            Status::Done,
+            b"graphite degree steps 0 calls 0\na 0\nb 0\nend\n",
+        ),
+        (
+            &["degree", "--at", "10"],
+            Status::QueryRefused,
+            NO_SUCH_INSTANT,
+        ),
+        // the vertex is asked for first
+        (
+            &["bfs", "--at", "10", "--source", "z"],
+            Status::QueryRefused,
+            NO_SUCH_VERTEX,
+        ),
+        (
+            &["degree", "--report", "sums"],
+            Status::Done,
+            b"graphite degree steps 0 calls 0\na 10 10 5\nb 10 10 4\nc 6 6 0\nend\n",
+        ),
+        (
+            &["degree", "--report=intervals"],
+            Status::Done,
+            STOPS_REPORT,
         ),
     ];
     for (words, status, written) in cases {
@@ -277,29 +321,15 @@ fn instants_near_the_last(rt: HostRuntime) -> Result<(), Fail> {
 #[test]
 fn words_that_are_refused(rt: HostRuntime) -> Result<(), Fail> {
     let alloc = rt.alloc();
-    let lists: [&[&str]; 22] = [
+    let lists: [&[&str]; 8] = [
         &[],
         &["frob"],
         &["degree", "extra"],
-        &["degree", "--steps", "3"],
-        &["degree", "--source", "a"],
         &["bfs"],
-        &["bfs", "--source"],
-        &["bfs", "--steps", "4"],
-        &["bfs", "--source=a"],
+        &["bfs", "--source", "-"],
         &["bfs", "--source", "a", "--source", "b"],
-        &["bfs", "--source", "a", "--target", "b"],
-        &["bfs", "--source", "a", "--steps", "0"],
-        &["bfs", "--source", "a", "--steps", "01"],
-        &["bfs", "--source", "a", "--steps", "2097153"],
-        &["--source", "a", "bfs"],
-        &["components", "--source", "a"],
-        &["max"],
-        &["max", "--key", "load", "--key", "load"],
-        &["max", "--key", "load", "--source", "a"],
-        &["distance", "--key", "load"],
-        &["rank", "--steps", "-1"],
-        &["rank", "--key", "load"],
+        &["degree", "--report", "sums", "--at", "1"],
+        &["earliest", "--source", "a"],
     ];
     for list in lists {
         let words = words_of(alloc, list)?;
