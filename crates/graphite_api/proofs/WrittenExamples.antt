@@ -2,7 +2,7 @@
 use Rattle.std.proofs.Common.{◌≡◌, ◌≢◌, refl, sym, subst, ◌∙◌, ℕ, ◌+◌, ◌<◌, ◌≤◌, Bool, List, [], ◌∷◌, length, Some, arith, lit<, lit≤, inr, ⊎_elim}
 use Rattle.std.specs.List.{Contains}
 use Rattle.graphite_api.specs.declared.kind.Kind.{Kind}
-use Rattle.graphite_api.specs.declared.kind.Kind.TheVariants.{Reach, Earliest, Cheapest, Fastest, Latest}
+use Rattle.graphite_api.specs.declared.kind.Kind.TheVariants.{Reach, Cheapest, Fastest, Latest}
 use Rattle.graphite_api.specs.declared.path_query.PathQuery.{PathQuery}
 use Rattle.graphite_api.specs.Hop.{Hop, arrival, Waits}
 use Rattle.graphite_api.specs.Journey.{IsJourney, IsAsGood, journey_value, total_cost, IsBestOverAll}
