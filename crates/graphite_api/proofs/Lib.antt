@@ -24,5 +24,6 @@ pub mod SuperstepLemmas
 pub mod TableLemmas
 pub mod ValuesLemmas
 pub mod WaitLemmas
+pub mod WrittenExamples
 pub mod WrittenExists
 pub mod WrittenLemmas
