@@ -1,6 +1,6 @@
 -- What the published definition of `clap` gives for the command of this program.
 use Rattle.std.proofs.Common.{◌≡◌, ◌∙◌, ap, ap₂, sym, refl, subst, List, [], ◌∷◌, Some, None, true, false, inl, inr}
-use Rattle.clap.specs.Words.{AddsArg, App, FailsBy, HasKind, IsAmong, Kinds, Rule, Text, app_of, fault_of, is_simple, is_simple_and_free, kind_of, matches_of, rule_of, with_rule}
+use Rattle.clap.specs.Words.{AddsArg, App, HasKind, IsAmong, Kinds, Rule, Text, app_of, fault_of, is_simple, is_simple_and_free, kind_of, matches_of, rule_of, with_rule}
 use Rattle.clap.specs.Words.{Row as Match}
 use Rattle.clap.specs.declared.builder.arg.Arg.{Arg}
 use Rattle.clap.specs.declared.builder.command.Command.{Command}

@@ -1,5 +1,5 @@
 -- What is known of every query.
-use Rattle.std.proofs.Common.{◌≡◌, ◌∙◌, ◌≤◌, ◌&&◌, ℕ, Bool, true, false, List, codes, Option, Some, None, refl, sym, ap, subst, arith}
+use Rattle.std.proofs.Common.{◌≡◌, ◌∙◌, ◌≤◌, ◌&&◌, ℕ, Bool, true, false, List, codes, Option, Some, None, refl, ap, subst}
 use Rattle.std.specs.Prelude.{is_some, nat_le, option_map, option_and_then, if◌then◌else◌, IsSome, IsTrue}
 use Rattle.std.specs.Str.{bytes_eq}
 use Rattle.std.proofs.lemmas.Bool.{and_parts, leb-true}
@@ -17,6 +17,7 @@ pub record IsWhole (query : PlainQuery) : Type 0 where
   pub key : IsTrue (row_of query.command).wants_key → IsSome query.key
   pub instant : (t : ℕ) → query.report ≡ At t → t ≤ LAST
 
+-- a number that is read is within its limit
 within : (max t : ℕ) (text : List ℕ) → number_in max text ≡ Some t → t ≤ max
 within max t text found = go (is_canonical text && nat_le (value_of text) max) refl found
   where
@@ -35,6 +36,7 @@ no_instant text t found = go (bytes_eq text (codes "intervals")) (bytes_eq text 
     go false true found = cc
     go false false found = cc
 
+-- an instant that is reported is in time
 in_time : (kind instant : Option (List ℕ)) (t : ℕ) → report_of kind instant ≡ Some (At t) → t ≤ LAST
 in_time None None t found = cc
 in_time (Some text) None t found = absurd (no_instant text t found)
@@ -45,6 +47,7 @@ in_time None (Some text) t found = go (number_in LAST text) refl found
     go None same found = cc
     go (Some n) same found = within LAST t text (same ∙ ap Some (cc))
 
+-- what is wanted is given
 wanted : (wants : Bool) (value : Option (List ℕ)) → is_as_wanted wants value ≡ true → wants ≡ true → is_some value ≡ true
 wanted true value fits wants = fits
 wanted false value fits wants = cc
@@ -54,7 +57,7 @@ first_two true true c d e all = (refl, refl)
 first_two true false c d e all = cc
 first_two false b c d e all = cc
 
--- what a program makes of what is given
+-- what a program makes of what is given is whole
 pub whole_with : (command : Command) (given : PlainGiven) (query : PlainQuery) → query_with command given ≡ Some query → IsWhole query
 whole_with command given query found = by_test (takes (row_of command) given) refl found
   where
@@ -85,6 +88,7 @@ whole_with command given query found = by_test (takes (row_of command) given) re
     by_test true fits found = by_steps (steps_of given.steps) fits found
     by_test false fits found = cc
 
+-- and so is what is given
 pub whole_by : (given : PlainGiven) (query : PlainQuery) → query_by given ≡ Some query → IsWhole query
 whole_by given query found = go (option_and_then command_of given.program) found
   where

@@ -1,9 +1,9 @@
 -- What some lists of words ask for, by the definition.
-use Rattle.std.proofs.Common.{◌≡◌, List, [], ◌∷◌, Some, None, codes, refl}
+use Rattle.std.proofs.Common.{◌≡◌, [], ◌∷◌, Some, None, codes, refl}
 use Rattle.clap.proofs.OnLiterals.{clap_on_literals}
 use Rattle.graphite_words.specs.declared.query.Report.TheVariants.{Intervals, Sums, At}
 use Rattle.graphite_words.specs.declared.table.Command.TheVariants.{Degree, Bfs, Max}
-use Rattle.graphite_words.specs.Words.{PlainQuery, graphite_command, matches_in, query_of}
+use Rattle.graphite_words.specs.Words.{graphite_command, matches_in, query_of}
 
 option_with_its_value : query_of (codes "bfs" ∷ codes "--source=-x" ∷ []) ≡ Some (record { command = Bfs; vertex = Some (codes "-x"); key = None; steps = None; report = Intervals })
 unfolding graphite_command matches_in clap_on_literals

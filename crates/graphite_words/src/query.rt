@@ -20,7 +20,7 @@ use std::alloc::Global;
 pub enum Report {
     /// The value of each vertex in each interval of its life.
     Intervals,
-    /// The sums of the values in each interval.
+    /// Sums of the values.
     Sums,
     /// The value of each vertex at an instant.
     At(u64),
@@ -40,9 +40,9 @@ pub struct Query {
 }
 
 /// What the words ask for, which are those after the program's own name. They are refused exactly where
-/// one is `-` or `--` alone, where `clap` finds a fault in them, a request for help among those, or
-/// where the program that they name does not take the options that they give, or is not in the table. A
-/// name or a key is taken as it is.
+/// one is `-` or `--` alone; where `clap` finds a fault in them, a request for help among those; or
+/// where they name no program of the table, give an option that it does not take or the value of one in
+/// no form that it has, or leave out one that it wants. A name or a key is taken as it is.
 pub fn query_of(alloc: Global, words: &[String]) -> Result<Query, WordsFault>
     ensures asked { IfOk result (λ query. query_of (map string_bytes words.now) ≡ Some (plain_query query)) }
     ensures refused { IsErrOf result WordsFault.Refused → query_of (map string_bytes words.now) ≡ None }

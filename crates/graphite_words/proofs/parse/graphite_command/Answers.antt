@@ -1,6 +1,6 @@
-use Rattle.std.proofs.Common.{◌≡◌, ◌∙◌, rules, codes}
+use Rattle.std.proofs.Common.{codes}
 use Rattle.std.proofs.lemmas.Result.{IfOk-weaker}
-use Rattle.clap.specs.Words.{App, app_of, new_app, new_rule, with_rule}
+use Rattle.clap.specs.Words.{new_rule}
 use Rattle.graphite_words.specs.Words.{graphite_command, option_rule}
 use Rattle.graphite_words.proofs.ParseLemmas.{app_added}
 use Rattle.graphite_words.proofs.parse.graphite_command.Goals as goal

@@ -1,7 +1,6 @@
 use Rattle.std.proofs.Common.{◌≡◌, ◌∙◌, map, sym, Err}
 use Rattle.std.proofs.lemmas.Result.{err_from_is_err_and}
-use Rattle.clap.specs.Words.{app_of, found_of, rows_of, kind_of}
-use Rattle.clap.specs.declared.error.kind.ErrorKind.TheVariants.{OutOfMemory}
+use Rattle.clap.specs.Words.{app_of, found_of, rows_of}
 use Rattle.graphite_words.specs.declared.fault.WordsFault.TheVariants.{NoMemory, Refused}
 use Rattle.graphite_words.proofs.ParseLemmas.{matches_in-fails, matches_in-passes}
 use Rattle.graphite_words.proofs.parse.matches_in.Goals as goal
