@@ -1,35 +1,55 @@
 -- The definitions on worked runs.
-use Rattle.std.proofs.Common.{◌≡◌, refl, ℕ, List, [], ◌∷◌, None}
+use Rattle.std.proofs.Common.{◌≡◌, refl, ℕ, List, [], ◌∷◌, Option, None}
 use Rattle.std.specs.Prelude.{codes, Some}
 use Rattle.std.specs.Fmt.{digits}
+use Rattle.clap.proofs.OnLiterals.{clap_on_literals}
 use Rattle.graphite_part.specs.Runs.{runs_of}
 use Rattle.graphite_text.specs.Reading.{reading_of}
 use Rattle.graphite_text.specs.Canonical.{canonical_text}
 use Rattle.graphite_api.specs.Calls.{is_quiet, supersteps_made, calls_in, calls_made}
-use Rattle.graphite_report.specs.Report.{vertex_lines, intervals_report}
+use Rattle.graphite_report.specs.Report.{vertex_lines, intervals_report, instant_report, sums_line, sums_report}
+use Rattle.graphite_words.specs.declared.table.Command.{Command}
+use Rattle.graphite_words.specs.declared.table.Command.TheVariants.{Degree, Bfs, Components, Max, Distance, Rank, Show}
+use Rattle.graphite_words.specs.declared.query.Report.{Report}
+use Rattle.graphite_words.specs.declared.query.Report.TheVariants.{Intervals, Sums, At}
+use Rattle.graphite_words.specs.Words.{PlainQuery, graphite_command, matches_in}
 use Rattle.graphite_top.specs.declared.status.Status.TheVariants.{Done, TextRefused, QueryRefused}
-use Rattle.graphite_top.specs.declared.words.Command.TheVariants.{Degree, Bfs}
-use Rattle.graphite_top.specs.Words.{none_given, query_of}
-use Rattle.graphite_top.specs.Output.{output_of}
+use Rattle.graphite_top.specs.Output.{output_of, text_answer}
 
-worked : output_of (codes "degree" ∷ []) (Some (codes "graph 1 10\nv a 0 10\nv b 0 10\nv c 2 8\ne ab a b 0 5\ne bc b c 3 7\nend\n")) ≡
+-- a query for a program without options, for one with a source, with a key, and with a number of supersteps
+abbrev plain : Command → Report → PlainQuery
+plain command report = record { command = command; vertex = None; key = None; steps = None; report = report }
+
+abbrev from : List ℕ → Command → PlainQuery
+from name command = record { command = command; vertex = Some name; key = None; steps = None; report = Intervals }
+
+abbrev under : List ℕ → Command → PlainQuery
+under key command = record { command = command; vertex = None; key = Some key; steps = None; report = Intervals }
+
+abbrev within : ℕ → Command → PlainQuery
+within steps command = record { command = command; vertex = None; key = None; steps = Some steps; report = Intervals }
+
+abbrev stops : List ℕ
+stops = codes "graph 1 10\nv a 0 10\nv b 0 10\nv c 2 8\ne ab a b 0 5\ne bc b c 3 7\nend\n"
+
+worked : output_of (codes "degree" ∷ []) (Some stops) ≡
     Some (record { status = Done; text = codes "graphite degree steps 0 calls 0\na 0 5 1\na 5 10 0\nb 0 3 0\nb 3 7 1\nb 7 10 0\nc 2 8 0\nend\n" })
-unfolding reading_of runs_of vertex_lines intervals_report digits
+unfolding graphite_command matches_in clap_on_literals reading_of runs_of vertex_lines intervals_report digits
 worked = refl
 
-refused : output_of (codes "degree" ∷ []) (Some (codes "graph 1 10\nv a 0 10\nv b 0 10\nv c 2 8\ne ac a c 0 5\ne bc b c 3 7\nend\n"))
-    ≡ Some (record { status = TextRefused; text = codes "refused text line 5 rule 9\n" })
+refused : text_answer (plain Degree Intervals) (codes "graph 1 10\nv a 0 10\nv b 0 10\nv c 2 8\ne ac a c 0 5\ne bc b c 3 7\nend\n")
+    ≡ record { status = TextRefused; text = codes "refused text line 5 rule 9\n" }
 unfolding reading_of digits
 refused = refl
 
-shown : output_of (codes "show" ∷ []) (Some (codes "# bus\ngraph 1 10\n\nv a 0 10\npv a load 0 4 7\nv b 0 10\ne ab a b 0 5\npe ab cost 0 5 3\npv b load 2 6 3\nend\n# done\n"))
-    ≡ Some (record { status = Done; text = codes "graph 1 10\nv a 0 10\nv b 0 10\ne ab a b 0 5\npv a load 0 4 7\npv b load 2 6 3\npe ab cost 0 5 3\nend\n" })
+shown : text_answer (plain Show Intervals) (codes "# bus\ngraph 1 10\n\nv a 0 10\npv a load 0 4 7\nv b 0 10\ne ab a b 0 5\npe ab cost 0 5 3\npv b load 2 6 3\nend\n# done\n")
+    ≡ record { status = Done; text = codes "graph 1 10\nv a 0 10\nv b 0 10\ne ab a b 0 5\npv a load 0 4 7\npv b load 2 6 3\npe ab cost 0 5 3\nend\n" }
 unfolding reading_of canonical_text digits
 shown = refl
 
 -- two vertices, and an edge between them at the first of two instants
-searched : output_of (codes "bfs" ∷ codes "--source" ∷ codes "a" ∷ []) (Some (codes "graph 1 2\nv a 0 2\nv b 0 2\ne ab a b 0 1\nend\n"))
-    ≡ Some (record { status = Done; text = codes "graphite bfs steps 3 calls 3\na 0 2 0\nb 0 1 1\nb 1 2 none\nend\n" })
+searched : text_answer (from (codes "a") Bfs) (codes "graph 1 2\nv a 0 2\nv b 0 2\ne ab a b 0 1\nend\n")
+    ≡ record { status = Done; text = codes "graphite bfs steps 3 calls 3\na 0 2 0\nb 0 1 1\nb 1 2 none\nend\n" }
 unfolding reading_of runs_of vertex_lines intervals_report digits is_quiet supersteps_made calls_in calls_made
 searched = refl
 
@@ -37,55 +57,40 @@ searched = refl
 abbrev loaded : List ℕ
 loaded = codes "graph 1 2\nv a 0 2\nv b 0 2\ne ab a b 0 1\npv a load 0 2 7\npe ab cost 0 1 3\nend\n"
 
-connected : output_of (codes "components" ∷ []) (Some loaded) ≡ Some (record { status = Done; text = codes "graphite components steps 3 calls 5\na 0 2 0\nb 0 1 0\nb 1 2 1\nend\n" })
+connected : text_answer (plain Components Intervals) loaded ≡ record { status = Done; text = codes "graphite components steps 3 calls 5\na 0 2 0\nb 0 1 0\nb 1 2 1\nend\n" }
 unfolding reading_of runs_of vertex_lines intervals_report digits is_quiet supersteps_made calls_in calls_made
 connected = refl
 
-heaviest : output_of (codes "max" ∷ codes "--key" ∷ codes "load" ∷ []) (Some loaded) ≡ Some (record { status = Done; text = codes "graphite max steps 3 calls 3\na 0 2 7\nb 0 1 7\nb 1 2 none\nend\n" })
+heaviest : text_answer (under (codes "load") Max) loaded ≡ record { status = Done; text = codes "graphite max steps 3 calls 3\na 0 2 7\nb 0 1 7\nb 1 2 none\nend\n" }
 unfolding reading_of runs_of vertex_lines intervals_report digits is_quiet supersteps_made calls_in calls_made
 heaviest = refl
 
-cheapest : output_of (codes "distance" ∷ codes "--source" ∷ codes "a" ∷ []) (Some loaded) ≡ Some (record { status = Done; text = codes "graphite distance steps 3 calls 3\na 0 2 0\nb 0 1 3\nb 1 2 none\nend\n" })
+cheapest : text_answer (from (codes "a") Distance) loaded ≡ record { status = Done; text = codes "graphite distance steps 3 calls 3\na 0 2 0\nb 0 1 3\nb 1 2 none\nend\n" }
 unfolding reading_of runs_of vertex_lines intervals_report digits is_quiet supersteps_made calls_in calls_made
 cheapest = refl
 
-ranked : output_of (codes "rank" ∷ codes "--steps" ∷ codes "2" ∷ []) (Some loaded) ≡ Some (record { status = Done; text = codes "graphite rank steps 2 calls 7\na 0 2 75000000\nb 0 1 500000000\nb 1 2 75000000\nend\n" })
+ranked : text_answer (within 2 Rank) loaded ≡ record { status = Done; text = codes "graphite rank steps 2 calls 7\na 0 2 75000000\nb 0 1 500000000\nb 1 2 75000000\nend\n" }
 unfolding reading_of runs_of vertex_lines intervals_report digits is_quiet supersteps_made calls_in calls_made
 ranked = refl
 
-no_such_vertex : output_of (codes "bfs" ∷ codes "--source" ∷ codes "z" ∷ []) (Some (codes "graph 1 1\nv a 0 1\nend\n"))
-    ≡ Some (record { status = QueryRefused; text = codes "refused query 1\n" })
+no_such_vertex : text_answer (from (codes "z") Bfs) (codes "graph 1 1\nv a 0 1\nend\n")
+    ≡ record { status = QueryRefused; text = codes "refused query 1\n" }
 unfolding reading_of
 no_such_vertex = refl
 
--- the words alone
-plain_degree : query_of (codes "degree" ∷ []) ≡ Some (record { command = Degree; options = none_given })
-plain_degree = refl
+-- the other reports
+at_an_instant : text_answer (plain Degree (At 3)) stops ≡ record { status = Done; text = codes "graphite degree steps 0 calls 0\na 1\nb 1\nc 0\nend\n" }
+unfolding reading_of instant_report digits
+at_an_instant = refl
 
-any_order : query_of (codes "bfs" ∷ codes "--steps" ∷ codes "4" ∷ codes "--source" ∷ codes "a" ∷ []) ≡ Some (record { command = Bfs; options = record { source = Some (codes "a"); key = None; steps = Some 4 } })
-any_order = refl
+after_a_life : text_answer (plain Degree (At 9)) stops ≡ record { status = Done; text = codes "graphite degree steps 0 calls 0\na 0\nb 0\nend\n" }
+unfolding reading_of instant_report digits
+after_a_life = refl
 
--- a value is taken as it is
-value_like_an_option : query_of (codes "bfs" ∷ codes "--source" ∷ codes "--steps" ∷ []) ≡ Some (record { command = Bfs; options = record { source = Some (codes "--steps"); key = None; steps = None } })
-value_like_an_option = refl
+at_the_horizon : text_answer (plain Degree (At 10)) stops ≡ record { status = QueryRefused; text = codes "refused query 2\n" }
+unfolding reading_of
+at_the_horizon = refl
 
-no_source : query_of (codes "bfs" ∷ codes "--steps" ∷ codes "4" ∷ []) ≡ None
-no_source = refl
-
-no_value : query_of (codes "bfs" ∷ codes "--source" ∷ []) ≡ None
-no_value = refl
-
-given_twice : query_of (codes "bfs" ∷ codes "--source" ∷ codes "a" ∷ codes "--source" ∷ codes "b" ∷ []) ≡ None
-given_twice = refl
-
-no_steps : query_of (codes "bfs" ∷ codes "--source" ∷ codes "a" ∷ codes "--steps" ∷ codes "0" ∷ []) ≡ None
-no_steps = refl
-
-too_many_steps : query_of (codes "bfs" ∷ codes "--source" ∷ codes "a" ∷ codes "--steps" ∷ codes "2097153" ∷ []) ≡ None
-too_many_steps = refl
-
-no_option_of_degree : query_of (codes "degree" ∷ codes "--source" ∷ codes "a" ∷ []) ≡ None
-no_option_of_degree = refl
-
-no_program_first : query_of (codes "--source" ∷ codes "a" ∷ codes "bfs" ∷ []) ≡ None
-no_program_first = refl
+in_sums : text_answer (plain Degree Sums) stops ≡ record { status = Done; text = codes "graphite degree steps 0 calls 0\na 10 10 5\nb 10 10 4\nc 6 6 0\nend\n" }
+unfolding reading_of sums_line sums_report digits
+in_sums = refl

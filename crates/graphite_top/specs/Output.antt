@@ -59,9 +59,13 @@ text_refusal line rule = record {
   text = codes "refused text line " ++ decimal line ++ codes " rule " ++ decimal rule ++ codes "\n";
 }
 
--- the refusal of a query: 1 where its source names no vertex of the graph, 2 where its instant is not below the horizon
-abbrev pub query_refusal : (number : ℕ) → Answer
-query_refusal number = record { status = QueryRefused; text = codes "refused query " ++ decimal number ++ codes "\n" }
+-- the refusal of a query whose source names no vertex of the graph
+abbrev pub vertex_refusal : Answer
+vertex_refusal = record { status = QueryRefused; text = codes "refused query 1\n" }
+
+-- the refusal of a query for an instant that is not below the horizon
+abbrev pub instant_refusal : Answer
+instant_refusal = record { status = QueryRefused; text = codes "refused query 2\n" }
 
 -- what a command asks of a graph, where the source that it was given has this number, or names no vertex, and where it
 -- was given this key
@@ -116,8 +120,8 @@ steps_of query graph = unwrap_or query.steps (usual_steps (row_of query.command)
 abbrev pub asked_answer : PlainGraph → Report → (word : List ℕ) → (steps : ℕ) → Asked → Answer
 asked_answer graph report word steps Text = report_answer (canonical_text graph)
 asked_answer graph report word steps (Snap query) = report_answer (snap_report report graph word (meaning_of query) steps)
-asked_answer graph report word steps NoVertex = query_refusal 1
-asked_answer graph report word steps NoInstant = query_refusal 2
+asked_answer graph report word steps NoVertex = vertex_refusal
+asked_answer graph report word steps NoInstant = instant_refusal
 
 -- the answer to a query for a graph
 abbrev pub graph_answer : PlainQuery → PlainGraph → Answer

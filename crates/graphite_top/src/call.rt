@@ -5,7 +5,7 @@ ghost use Rattle.graphite_base.specs.Causes.{Rose};
 ghost use Rattle.graphite_base.specs.Known.{IsEmptied};
 ghost use Rattle.graphite_text.specs.Canonical.{canonical_text};
 ghost use Rattle.graphite_text.specs.Reading.{text_limit};
-ghost use Rattle.graphite_top.specs.Output.{graph_answer, output_of, query_answer, query_refusal, report_answer, text_answer, steps_of, text_refusal, usual_steps, words_refusal, CanBeRefused};
+ghost use Rattle.graphite_top.specs.Output.{graph_answer, output_of, query_answer, report_answer, text_answer, steps_of, text_refusal, usual_steps, words_refusal, CanBeRefused};
 ghost use Rattle.graphite_words.specs.Query.{number_given, plain_query};
 ghost use Rattle.graphite_words.specs.Table.{row_of};
 ghost use Rattle.graphite_words.specs.Words.{query_of};
