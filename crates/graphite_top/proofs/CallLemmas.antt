@@ -1,6 +1,7 @@
 -- What a call owes for a text of the source, and where the text is longer than a text may be.
 use Rattle.std.proofs.Common.{◌≡◌, ◌≢◌, ℕ, ◌+◌, ◌<◌, false, List, length, Option, Some, None, refl, sym, ap, subst, arith, leb, IfSome}
 use Rattle.std.proofs.lemmas.Bool.{cond-false}
+use Rattle.std.proofs.lemmas.List.{append-nil}
 use Rattle.std.proofs.lemmas.Bool.Decides.{nat_tests}
 use Rattle.graphite_base.specs.Causes.{Rose}
 use Rattle.graphite_base.specs.Known.{IsWhole, TookJust}
@@ -10,6 +11,7 @@ use Rattle.graphite_top.specs.declared.status.Status.{Status}
 use Rattle.graphite_top.specs.declared.status.Status.TheVariants.{Done, TextRefused, WordsRefused, QueryRefused, ReadFault, WriteFault, NoMemory}
 use Rattle.graphite_words.specs.Words.{PlainQuery, query_of}
 use Rattle.graphite_top.specs.Output.{Answer, query_answer, output_of, text_answer, reading_answer, text_refusal, words_refusal}
+use Rattle.graphite_report.specs.Written.{AppendsPrefix}
 use Rattle.graphite_top.specs.Call.{Answers, Writes, Gives}
 
 too_long_read : (bytes : List ℕ) → text_limit < length bytes → reading_of bytes ≡ Refused 0 16
@@ -58,3 +60,15 @@ for_query P words query left accepted h = subst (λ q. IfSome (query_answer q le
 -- what is said of the refusal of words is said of the output of words that are refused
 pub for_refused : (P : Answer → Type 0) (words : List (List ℕ)) (left : Option (List ℕ)) → query_of words ≡ None → P words_refusal → IfSome (output_of words left) P
 for_refused P words left refused h = subst (λ q. IfSome (query_answer q left) P) (sym refused) h
+
+if_any : {X : Type 0} (P : X → Type 0) (o : Option X) → ((x : X) → P x) → IfSome o P
+if_any P None all = tt
+if_any P (Some x) all = all x
+
+nothing_more : (old : Option (List ℕ)) (text : List ℕ) → AppendsPrefix old old text
+nothing_more None text = (0, tt)
+nothing_more (Some bytes) text = (0, sym (append-nil bytes))
+
+-- where memory ran out before anything was written, that is a prefix of every text
+pub unwritten : (words : List (List ℕ)) (left old : Option (List ℕ)) → IfSome (output_of words left) (λ answer. Answers NoMemory answer old old)
+unwritten words left old = if_any (λ answer. Answers NoMemory answer old old) (output_of words left) (λ answer. nothing_more old answer.text)

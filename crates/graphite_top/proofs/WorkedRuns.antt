@@ -2,7 +2,6 @@
 use Rattle.std.proofs.Common.{◌≡◌, refl, ℕ, List, [], ◌∷◌, Option, None}
 use Rattle.std.specs.Prelude.{codes, Some}
 use Rattle.std.specs.Fmt.{digits}
-use Rattle.clap.proofs.OnLiterals.{clap_on_literals}
 use Rattle.graphite_part.specs.Runs.{runs_of}
 use Rattle.graphite_text.specs.Reading.{reading_of}
 use Rattle.graphite_text.specs.Canonical.{canonical_text}
@@ -12,7 +11,7 @@ use Rattle.graphite_words.specs.declared.table.Command.{Command}
 use Rattle.graphite_words.specs.declared.table.Command.TheVariants.{Degree, Bfs, Components, Max, Distance, Rank, Show}
 use Rattle.graphite_words.specs.declared.query.Report.{Report}
 use Rattle.graphite_words.specs.declared.query.Report.TheVariants.{Intervals, Sums, At}
-use Rattle.graphite_words.specs.Words.{PlainQuery, graphite_command, matches_in}
+use Rattle.graphite_words.specs.Words.{PlainQuery}
 use Rattle.graphite_top.specs.declared.status.Status.TheVariants.{Done, TextRefused, QueryRefused}
 use Rattle.graphite_top.specs.Output.{output_of, text_answer}
 
@@ -32,9 +31,9 @@ within steps command = record { command = command; vertex = None; key = None; st
 abbrev stops : List ℕ
 stops = codes "graph 1 10\nv a 0 10\nv b 0 10\nv c 2 8\ne ab a b 0 5\ne bc b c 3 7\nend\n"
 
-worked : output_of (codes "degree" ∷ []) (Some stops) ≡
-    Some (record { status = Done; text = codes "graphite degree steps 0 calls 0\na 0 5 1\na 5 10 0\nb 0 3 0\nb 3 7 1\nb 7 10 0\nc 2 8 0\nend\n" })
-unfolding graphite_command matches_in clap_on_literals reading_of runs_of vertex_lines intervals_report digits
+worked : text_answer (plain Degree Intervals) stops
+    ≡ record { status = Done; text = codes "graphite degree steps 0 calls 0\na 0 5 1\na 5 10 0\nb 0 3 0\nb 3 7 1\nb 7 10 0\nc 2 8 0\nend\n" }
+unfolding reading_of runs_of vertex_lines intervals_report digits
 worked = refl
 
 refused : text_answer (plain Degree Intervals) (codes "graph 1 10\nv a 0 10\nv b 0 10\nv c 2 8\ne ac a c 0 5\ne bc b c 3 7\nend\n")

@@ -1,6 +1,7 @@
-use Rattle.std.proofs.Common.{◌≡◌, map, string_bytes}
-use Rattle.graphite_words.specs.Query.{plain_query}
-use Rattle.graphite_top.specs.Output.{CanBeRefused}
-use Rattle.graphite_top.specs.Call.{Answers, Gives}
-use Rattle.graphite_top.proofs.CallLemmas.{for_query, for_refused, Answers-written, Gives-written}
+use Rattle.std.proofs.Common.{map, string_bytes}
+use Rattle.graphite_top.proofs.CallLemmas.{unwritten}
 use Rattle.graphite_top.proofs.call.run.Goals as goal
+
+pub returns-in-Err-NoMemory-clause-answer : goal.returns-in-Err-NoMemory-clause-answer
+returns-in-Err-NoMemory-clause-answer g c =
+    unwritten (map string_bytes c.args.words.now) (g.S.Source.left c.args.source.now) (g.K.Sink.written c.args.sink.now)
