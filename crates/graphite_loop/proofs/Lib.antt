@@ -1,4 +1,7 @@
+pub mod BestNextLemmas
+pub mod BroughtLemmas
 pub mod CallLemmas
+pub mod JourneyStepLemmas
 pub mod NoteLemmas
 pub mod DropLemmas
 pub mod Examples
@@ -12,4 +15,5 @@ pub mod ScatterLemmas
 pub mod SendLemmas
 pub mod StepLemmas
 pub mod TableLemmas
+pub mod ToldLemmas
 pub mod WalkLemmas
