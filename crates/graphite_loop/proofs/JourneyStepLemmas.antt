@@ -112,11 +112,11 @@ module _ (values : Values) (lawful : AreLawful values) (lives : List (List Inter
 
   -- the first superstep
   module _ (old new : Standing (Option ℕ) ℕ) (answer : Bool) (calls_old calls_new : ℕ) (on : AreInitial lives old.states) (silent : (v : ℕ) → list_at old.inboxes v ≡ []) (starts : (v t : ℕ) → vertex_value old.states v t ≡ start v t) (step : IsSuperstep (journey_rules values) arcs 1 old new answer calls_old calls_new) where
-    first_outcome : (v t : ℕ) → outcome_in (journey_rules values) 1 old v t ≡ outcome_at (journey_rules values) 1 (state_at old v t) []
+    pub first_outcome : (v t : ℕ) → outcome_in (journey_rules values) 1 old v t ≡ outcome_at (journey_rules values) 1 (state_at old v t) []
     first_outcome v t =
         ap (λ inbox. outcome_at (journey_rules values) 1 (state_at old v t) (notes_at (journey_rules values).order inbox t)) (silent v)
 
-    kept : (v t : ℕ) → state_at new v t ≡ state_at old v t
+    pub kept : (v t : ℕ) → state_at new v t ≡ state_at old v t
     kept v t = new_state 1 old new answer calls_old calls_new on.len step v t ∙ ap state_of (first_outcome v t) ∙ first_state values lawful (state_at old v t)
 
     pub after_first : StandsBest values lives arcs start 1 new

@@ -1,6 +1,8 @@
 pub mod BestNextLemmas
 pub mod BroughtLemmas
 pub mod CallLemmas
+pub mod JourneyAnswerLemmas
+pub mod JourneyRunLemmas
 pub mod JourneyStepLemmas
 pub mod NoteLemmas
 pub mod DropLemmas

@@ -8,6 +8,7 @@ use Rattle.std.proofs.lemmas.List.Elements.{All-contains}
 use Rattle.graphite_time.specs.declared.interval.Interval.{Interval}
 use Rattle.graphite_time.specs.Interval.{start_of, end_of, holds}
 use Rattle.graphite_time.specs.Life.{IsLife}
+use Rattle.graphite_time.specs.Meet.{meet_of}
 use Rattle.graphite_time.proofs.LifeLemmas.{holds-from}
 use Rattle.graphite_part.specs.declared.piece.Piece.{Piece}
 use Rattle.graphite_part.specs.Pieces.{value_at, IsChain}
@@ -71,6 +72,18 @@ module _ (values : Values) (lives : List (List Interval)) (arcs : List Arc) (sta
         subst (λ n. IsTrue (values.good z (values.extend y hop.depart n hop.cost))) (sym along.time)
         (subst (λ n. IsTrue (values.good z (values.extend y hop.depart arc.time n))) (sym along.cost) good)
 
+    brought-along : (v : ℕ) → arc.to ≡ v → (piece : Piece (Option ℕ)) → Contains (sent arc.from) piece → piece.value ≡ Some y → (over : Interval) → meet_of piece.over arc.over ≡ Some over → (message : Message ℕ) → first_departure_message values (Some y) arc over ≡ Some message → IsBrought (journey_rules values) sent arcs v message
+    brought-along v to piece own is over common message made = record {
+      arc = arc;
+      among = on.among;
+      to = to;
+      piece = piece;
+      own = own;
+      over = over;
+      common = common;
+      made = ap (λ o. first_departure_message values o arc over) is ∙ made;
+    }
+
     pub hop-told : (v t : ℕ) → hop.to ≡ v → Waits (vertex_is_alive lives) v (arrival hop) t → (z : ℕ) × Contains (notes_at nat_cmp (delivered (journey_rules values) sent arcs v) t) z × IsTrue (values.good z (values.extend y hop.depart hop.time hop.cost))
     hop-told v t to waits =
         let along = hop_is_along arcs hop on in
@@ -82,17 +95,7 @@ module _ (values : Values) (lives : List (List Interval)) (arcs : List Arc) (sta
         let held = message_holds values lives arc stay over.0 within.1 within.3 y message.0 lives_are message.1 hop.depart t over.2
         (waits-along t (subst (λ w. Waits (vertex_is_alive lives) w (arrival hop) t) (sym to) waits)) in
         let good = message_good values lives arc stay over.0 within.1 within.3 y message.0 lawful message.1 hop.depart over.2 in
-        let same : first_departure_message values piece.0.value arc over.0 ≡ first_departure_message values (Some y) arc over.0 = ap (λ o. first_departure_message values o arc over.0) piece.3 in
-        let is : IsBrought (journey_rules values) sent arcs v message.0 = record {
-          arc = arc;
-          among = on.among;
-          to = sym along.to ∙ to;
-          piece = piece.0;
-          own = piece.1;
-          over = over.0;
-          common = over.1;
-          made = same ∙ message.1;
-        } in (
+        let is = brought-along v (sym along.to ∙ to) piece.0 piece.1 piece.3 over.0 over.1 message.0 message.1 in (
           message.0.note,
           Contains-held nat_cmp (delivered (journey_rules values) sent arcs v) t message.0 (Contains-delivered (journey_rules values) sent arcs v message.0 is) held,
           good-along message.0.note good,
