@@ -10,7 +10,8 @@ use Rattle.graphite_part.specs.Pieces.{IsChain}
 use Rattle.graphite_api.specs.declared.arc.Arc.{Arc}
 use Rattle.graphite_api.specs.Attained.{IsAttainedWithin, IsBestAttained, IsBestOfLists}
 use Rattle.graphite_api.specs.Best.{IsBest}
-use Rattle.graphite_api.specs.Table.{vertex_is_alive}
+use Rattle.graphite_api.specs.Rules.{Rules}
+use Rattle.graphite_api.specs.Table.{IsTable, vertex_is_alive}
 use Rattle.graphite_api.specs.TableHops.{IsHopOn, StaysAt}
 use Rattle.graphite_api.specs.Values.{Values, AreLawful, journey_rules}
 use Rattle.graphite_api.proofs.ListLemmas.{nothing_within_none, settled, settled_within}
@@ -36,6 +37,9 @@ module _ (values : Values) (lawful : AreLawful values) (lives : List (List Inter
   abbrev AsGood : ℕ → ℕ → Type 0
   AsGood x y = IsTrue (values.good x y)
 
+  abbrev Within : (k v t x : ℕ) → Type 0
+  Within k v t x = IsAttainedWithin values (vertex_is_alive lives) (IsHopOn arcs) (vertex_value init) k v t x
+
   abbrev Best : (k v t : ℕ) → Option ℕ → Type 0
   Best k v t o = IsBestAttained values (vertex_is_alive lives) (IsHopOn arcs) (vertex_value init) k v t o
 
@@ -60,7 +64,7 @@ module _ (values : Values) (lawful : AreLawful values) (lives : List (List Inter
       after_later values lawful lives arcs lives_are stays (vertex_value init) (length answers) before now answer calls_before calls (steps_best earlier answers before calls_before steps) (step_at (suc (length answers)) before now answer calls_before calls step)
 
   -- where the last one answers no, the values are the best within one hop less
-  pub quiet_best : (answers : List Bool) (now : Standing (Option ℕ) ℕ) (calls : ℕ) → AreSteps (journey_rules values) arcs init (false ∷ answers) now calls → (v t : ℕ) → IsBestAttained values (vertex_is_alive lives) (IsHopOn arcs) (vertex_value init) (length answers) v t (vertex_value now.states v t)
+  pub quiet_best : (answers : List Bool) (now : Standing (Option ℕ) ℕ) (calls : ℕ) → AreSteps (journey_rules values) arcs init (false ∷ answers) now calls → (v t : ℕ) → Best (length answers) v t (vertex_value now.states v t)
   quiet_best [] now calls (before, calls_before, steps, step) v t =
       subst (Best 0 v t)
       (sym (none_at_all values lawful lives arcs lives_are stays (vertex_value init) before now false calls_before calls (starts_on before steps.0) steps.0.inboxes (starts_as before steps.0) (step_at 0 before now false calls_before calls step) refl v t))
@@ -75,23 +79,20 @@ module _ (values : Values) (lawful : AreLawful values) (lives : List (List Inter
   both_best : (P Q : ℕ → Type 0) (o : Option ℕ) → IsBest AsGood P o → IsBest AsGood Q o → (value : Option ℕ) → IsBest AsGood P value → IsBest AsGood Q value
   both_best P Q o first then value best = subst (IsBest AsGood Q) (best_is_one values lawful P o value first best) then
 
-  Within : (k v t x : ℕ) → Type 0
-  Within k v t x = IsAttainedWithin values (vertex_is_alive lives) (IsHopOn arcs) (vertex_value init) k v t x
-
-  pub settled_at : (k : ℕ) (best : ℕ → ℕ → Option ℕ) → ((v t : ℕ) → IsBestAttained values (vertex_is_alive lives) (IsHopOn arcs) (vertex_value init) (k - 1) v t (best v t)) → ((v t : ℕ) → IsBestAttained values (vertex_is_alive lives) (IsHopOn arcs) (vertex_value init) k v t (best v t)) → IsSettledWithin values (vertex_is_alive lives) (IsHopOn arcs) (vertex_value init) k
+  pub settled_at : (k : ℕ) (best : ℕ → ℕ → Option ℕ) → ((v t : ℕ) → Best (k - 1) v t (best v t)) → ((v t : ℕ) → Best k v t (best v t)) → Settled k
   settled_at k best less all v t value = (
-    both_best (IsAttainedWithin values (vertex_is_alive lives) (IsHopOn arcs) (vertex_value init) (k - 1) v t) (IsAttainedWithin values (vertex_is_alive lives) (IsHopOn arcs) (vertex_value init) k v t) (best v t) (less v t) (all v t) value,
-    both_best (IsAttainedWithin values (vertex_is_alive lives) (IsHopOn arcs) (vertex_value init) k v t) (IsAttainedWithin values (vertex_is_alive lives) (IsHopOn arcs) (vertex_value init) (k - 1) v t) (best v t) (all v t) (less v t) value,
+    both_best (Within (k - 1) v t) (Within k v t) (best v t) (less v t) (all v t) value,
+    both_best (Within k v t) (Within (k - 1) v t) (best v t) (all v t) (less v t) value,
   )
 
   -- where it answers yes, some value is better than the best within one hop less
-  same_value : (k v t : ℕ) (o p : Option ℕ) → IsSettledWithin values (vertex_is_alive lives) (IsHopOn arcs) (vertex_value init) (suc k) → IsBestAttained values (vertex_is_alive lives) (IsHopOn arcs) (vertex_value init) k v t o → IsBestAttained values (vertex_is_alive lives) (IsHopOn arcs) (vertex_value init) (suc k) v t p → p ≡ o
+  same_value : (k v t : ℕ) (o p : Option ℕ) → Settled (suc k) → Best k v t o → Best (suc k) v t p → p ≡ o
   same_value k v t o p still less more =
       let number : k ≡ suc k - 1 = omega arith in
       let all = (still v t o).0 (subst (λ n. Best n v t o) number less) in
-      best_is_one values lawful (IsAttainedWithin values (vertex_is_alive lives) (IsHopOn arcs) (vertex_value init) (suc k) v t) p o more all
+      best_is_one values lawful (Within (suc k) v t) p o more all
 
-  pub loud_last : (answers : List Bool) (now : Standing (Option ℕ) ℕ) (calls : ℕ) → AreSteps (journey_rules values) arcs init (true ∷ answers) now calls → IsSettledWithin values (vertex_is_alive lives) (IsHopOn arcs) (vertex_value init) (suc (length answers)) → ⊥
+  pub loud_last : (answers : List Bool) (now : Standing (Option ℕ) ℕ) (calls : ℕ) → AreSteps (journey_rules values) arcs init (true ∷ answers) now calls → Settled (suc (length answers)) → ⊥
   loud_last [] now calls (before, calls_before, steps, step) still =
       let found = some_value values lawful lives arcs lives_are stays (vertex_value init) before now true calls_before calls (starts_on before steps.0) steps.0.inboxes (starts_as before steps.0) (step_at 0 before now true calls_before calls step) refl in
       let stands = steps_best true [] now calls (before, calls_before, steps, step) in
@@ -103,14 +104,14 @@ module _ (values : Values) (lawful : AreLawful values) (lives : List (List Inter
       found.2 (same_value (suc (length answers)) found.0 found.1 (vertex_value before.states found.0 found.1) (vertex_value now.states found.0 found.1) still (stands.best found.0 found.1) (stands'.best found.0 found.1))
 
   -- where all of them answer yes, the values are settled within none of them
-  pub loud_all : (answers : List Bool) (now : Standing (Option ℕ) ℕ) (calls : ℕ) → AreSteps (journey_rules values) arcs init answers now calls → All (λ answer. answer ≡ true) answers → (k : ℕ) → 1 ≤ k → k ≤ length answers → IsSettledWithin values (vertex_is_alive lives) (IsHopOn arcs) (vertex_value init) k → ⊥
+  pub loud_all : (answers : List Bool) (now : Standing (Option ℕ) ℕ) (calls : ℕ) → AreSteps (journey_rules values) arcs init answers now calls → All (λ answer. answer ≡ true) answers → (k : ℕ) → 1 ≤ k → k ≤ length answers → Settled k → ⊥
   loud_all [] now calls taken sent k low high still = absurd (omega (arith, low, high))
   loud_all (answer ∷ answers) now calls taken sent k low high still =
       ⊎_elim
       (λ (early : k < suc (length answers)). loud_all answers taken.0 taken.1 taken.2 (λ i d within. sent (suc i) d (omega (arith, within))) k low (omega (arith, early)) still)
       (λ (late : suc (length answers) ≤ k).
       let is : k ≡ suc (length answers) = omega (arith, late, high) in
-      loud_last answers now calls (subst (λ b. AreSteps (journey_rules values) arcs init (b ∷ answers) now calls) (sent 0 answer (omega arith)) taken) (subst (λ n. IsSettledWithin values (vertex_is_alive lives) (IsHopOn arcs) (vertex_value init) n) is still))
+      loud_last answers now calls (subst (λ b. AreSteps (journey_rules values) arcs init (b ∷ answers) now calls) (sent 0 answer (omega arith)) taken) (subst Settled is still))
       (cases_lt k (suc (length answers)))
 
   chains_after : (answer : Bool) (answers : List Bool) (now : Standing (Option ℕ) ℕ) (calls : ℕ) → AreSteps (journey_rules values) arcs init (answer ∷ answers) now calls → All IsChain now.states
@@ -119,11 +120,11 @@ module _ (values : Values) (lawful : AreLawful values) (lives : List (List Inter
 
   -- a run that has stopped at a superstep which answers no
   module _ (answers : List Bool) (now : Standing (Option ℕ) ℕ) (calls : ℕ) (taken : AreSteps (journey_rules values) arcs init (false ∷ answers) now calls) where
-    quiet_on : (j : ℕ) → length answers ≤ j → (v t : ℕ) → IsBestAttained values (vertex_is_alive lives) (IsHopOn arcs) (vertex_value init) j v t (vertex_value now.states v t)
+    quiet_on : (j : ℕ) → length answers ≤ j → (v t : ℕ) → Best j v t (vertex_value now.states v t)
     quiet_on j le v t =
         settled_within values lawful (vertex_is_alive lives) (IsHopOn arcs) (vertex_value init) (vertex_value now.states) (length answers) (quiet_best answers now calls taken) (steps_best false answers now calls taken).best j le v t
 
-    quiet_settled : (steps : ℕ) → suc (length answers) ≤ steps → IsSettledWithin values (vertex_is_alive lives) (IsHopOn arcs) (vertex_value init) steps
+    quiet_settled : (steps : ℕ) → suc (length answers) ≤ steps → Settled steps
     quiet_settled steps within =
         settled_at steps (vertex_value now.states) (λ v t. quiet_on (steps - 1) (omega (arith, within)) v t) (λ v t. quiet_on steps (omega (arith, within)) v t)
 
@@ -162,7 +163,7 @@ module _ (values : Values) (lawful : AreLawful values) (lives : List (List Inter
         };
         settled_is = (
           λ is_so. absurd (false≢true (sym settles ∙ is_so)),
-          λ still. absurd (loud_last answers now calls taken (subst (λ k. IsSettledWithin values (vertex_is_alive lives) (IsHopOn arcs) (vertex_value init) k) (sym number) still)),
+          λ still. absurd (loud_last answers now calls taken (subst Settled (sym number) still)),
         );
         over_all = λ is_so. absurd (false≢true (sym settles ∙ is_so));
       }
@@ -177,3 +178,14 @@ module _ (values : Values) (lawful : AreLawful values) (lives : List (List Inter
   is_journey_run steps states made settled calls run =
       subst (λ states. IsJourneyRun values lives arcs init steps states made settled) (sym run.states_are)
       (run_by run.answers run.last calls run.steps_are steps made settled run.made_is run.some_made run.within run.settled_is (run.sent_before refl) run.stopped)
+
+-- the same of a program whose rules are those of its values
+pub run_of_rules : (rules : Rules (Option ℕ) ℕ) (values : Values) → rules ≡ journey_rules values → AreLawful values
+    → (lives : List (List Interval)) (arcs : List Arc) → IsTable lives arcs → All (StaysAt lives) arcs
+    → (init : List (List (Piece (Option ℕ)))) → AreInitial lives init
+    → (steps : ℕ) (states : List (List (Piece (Option ℕ)))) (made : ℕ) (settled : Bool) (calls : ℕ)
+    → IsRun rules arcs init steps states made settled calls
+    → IsJourneyRun values lives arcs init steps states made settled
+run_of_rules rules values same lawful lives arcs table stays init on steps states made settled calls run =
+    is_journey_run values lawful lives arcs table.lives_are stays init on steps states made settled calls
+    (subst (λ r. IsRun r arcs init steps states made settled calls) same run)

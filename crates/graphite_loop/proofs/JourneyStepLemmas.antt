@@ -54,6 +54,9 @@ module _ (values : Values) (lawful : AreLawful values) (lives : List (List Inter
   abbrev Within : (k v t x : ℕ) → Type 0
   Within k v t x = IsAttainedWithin values (vertex_is_alive lives) (IsHopOn arcs) start k v t x
 
+  abbrev Best : (k v t : ℕ) → Option ℕ → Type 0
+  Best k v t o = IsBestAttained values (vertex_is_alive lives) (IsHopOn arcs) start k v t o
+
   -- one superstep, whatever it begins with
   module _ (k : ℕ) (old new : Standing (Option ℕ) ℕ) (answer : Bool) (calls_old calls_new : ℕ) (old_len : length old.states ≡ length lives) (step : IsSuperstep (journey_rules values) arcs k old new answer calls_old calls_new) where
     nothing_past : (v t : ℕ) → length old.states ≤ v → outcome_in (journey_rules values) k old v t ≡ None
@@ -88,7 +91,7 @@ module _ (values : Values) (lawful : AreLawful values) (lives : List (List Inter
 
     -- what stands after it, where its values are the best, and each value is sent or was told before
     pub stands_from : (n : ℕ) → AreInitial lives new.states
-        → ((v t : ℕ) → IsBestAttained values (vertex_is_alive lives) (IsHopOn arcs) start n v t (vertex_value new.states v t))
+        → ((v t : ℕ) → Best n v t (vertex_value new.states v t))
         → ((hop : Hop) → IsHopOn arcs hop → (v t : ℕ) → hop.to ≡ v → Waits (vertex_is_alive lives) v (arrival hop) t → (y : ℕ) → vertex_value new.states hop.from hop.depart ≡ Some y
         → (sent_of (outcome_in (journey_rules values) k old hop.from hop.depart) ≡ Some (Some y)) ⊎ ((z : ℕ) × (vertex_value new.states v t ≡ Some z) × AsGood z (values.extend y hop.depart hop.time hop.cost)))
         → StandsBest values lives arcs start n new
@@ -126,7 +129,7 @@ module _ (values : Values) (lawful : AreLawful values) (lives : List (List Inter
           len = step.states_len ∙ on.len;
           alive = λ v t among. subst (λ o. IsSome o ↔ IsTrue (vertex_is_alive lives v t)) (sym (kept v t)) (on.alive v t among);
         })
-        (λ v t. subst (IsBestAttained values (vertex_is_alive lives) (IsHopOn arcs) start 1 v t) (sym (ap option_flatten (kept v t) ∙ starts v t)) (start_within_one values lawful (vertex_is_alive lives) (IsHopOn arcs) start v t))
+        (λ v t. subst (Best 1 v t) (sym (ap option_flatten (kept v t) ∙ starts v t)) (start_within_one values lawful (vertex_is_alive lives) (IsHopOn arcs) start v t))
         (λ hop is v t to waits y value. inl
         (ap sent_of (first_outcome hop.from hop.depart) ∙ first_sent values lawful (state_at old hop.from hop.depart) y (sym (ap option_flatten (kept hop.from hop.depart)) ∙ value)))
 
@@ -152,7 +155,7 @@ module _ (values : Values) (lawful : AreLawful values) (lives : List (List Inter
     abbrev Known : (v t z : ℕ) → Type 0
     Known v t z = (vertex_value old.states v t ≡ Some z) ⊎ Contains (group v t) z
 
-    attained-known : (v t x : ℕ) → IsAttainedWithin values (vertex_is_alive lives) (IsHopOn arcs) start (suc (suc j)) v t x → (z : ℕ) × Known v t z × AsGood z x
+    attained-known : (v t x : ℕ) → Within (suc (suc j)) v t x → (z : ℕ) × Known v t z × AsGood z x
     attained-known v t x h = by h.0 h.1 h.2
       where
         by : (hops : List Hop) → length hops < suc (suc j) → Attains values (vertex_is_alive lives) (IsHopOn arcs) start hops v t x → (z : ℕ) × Known v t z × AsGood z x
@@ -167,7 +170,7 @@ module _ (values : Values) (lawful : AreLawful values) (lives : List (List Inter
             (known.0, known.1, lawful.through known.0 (values.extend found.0 hop.depart hop.time hop.cost) x known.2 rises)
 
     -- and it is there alone where the vertex is alive
-    attained-alive : (v t x : ℕ) → IsAttainedWithin values (vertex_is_alive lives) (IsHopOn arcs) start (suc (suc j)) v t x → state_at old v t ≡ None → ⊥
+    attained-alive : (v t x : ℕ) → Within (suc (suc j)) v t x → state_at old v t ≡ None → ⊥
     attained-alive v t x h none = by h.0 h.2
       where
         by : (hops : List Hop) → Attains values (vertex_is_alive lives) (IsHopOn arcs) start hops v t x → ⊥
@@ -178,7 +181,7 @@ module _ (values : Values) (lawful : AreLawful values) (lives : List (List Inter
             let alive = waits-last (vertex_is_alive lives) v (arrival hop) t attains.2 in
             false≢true (sym (ap is_some none) ∙ (before.on.alive v t (alive-below lives v t alive)).1 alive)
 
-    best_next_here : (v t : ℕ) (o : Option (Option ℕ)) → state_at old v t ≡ o → IsBestAttained values (vertex_is_alive lives) (IsHopOn arcs) start (suc (suc j)) v t (option_flatten (option_map (λ state. best_of values.good state (group v t)) o))
+    best_next_here : (v t : ℕ) (o : Option (Option ℕ)) → state_at old v t ≡ o → Best (suc (suc j)) v t (option_flatten (option_map (λ state. best_of values.good state (group v t)) o))
     best_next_here v t None none = λ x h. attained-alive v t x h none
     best_next_here v t (Some state) is =
         IsBest-other AsGood (Within (suc (suc j)) v t) (λ x. (state ≡ Some x) ⊎ Contains (group v t) x) (best_of values.good state (group v t)) lawful.through
@@ -194,8 +197,8 @@ module _ (values : Values) (lawful : AreLawful values) (lives : List (List Inter
             (λ (past : length lives ≤ v). absurd (none-some state (sym (state_at-past old v t (omega (arith, past, before.on.len))) ∙ is)))
             (cases_lt v (length lives))
 
-    next_best : (v t : ℕ) → IsBestAttained values (vertex_is_alive lives) (IsHopOn arcs) start (suc (suc j)) v t (vertex_value new.states v t)
-    next_best v t = subst (λ o. IsBestAttained values (vertex_is_alive lives) (IsHopOn arcs) start (suc (suc j)) v t (option_flatten o)) (sym (taken v t)) (best_next_here v t (state_at old v t) refl)
+    next_best : (v t : ℕ) → Best (suc (suc j)) v t (vertex_value new.states v t)
+    next_best v t = subst (λ o. Best (suc (suc j)) v t (option_flatten o)) (sym (taken v t)) (best_next_here v t (state_at old v t) refl)
 
     -- the new value is as good as the old one and as each note
     known-better : (v t z : ℕ) → v < length lives → Known v t z → (b : ℕ) × (vertex_value new.states v t ≡ Some b) × AsGood b z
