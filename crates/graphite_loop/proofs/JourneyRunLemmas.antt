@@ -46,7 +46,7 @@ module _ (values : Values) (lawful : AreLawful values) (lives : List (List Inter
   abbrev Settled : ℕ → Type 0
   Settled k = IsSettledWithin values (vertex_is_alive lives) (IsHopOn arcs) (vertex_value init) k
 
-  -- supersteps one after the other
+  -- the numbers of supersteps, and what stands before the first one
   step_at : (n : ℕ) (before now : Standing (Option ℕ) ℕ) (answer : Bool) (calls_before calls : ℕ) → IsSuperstep (journey_rules values) arcs (n + 1) before now answer calls_before calls → IsSuperstep (journey_rules values) arcs (suc n) before now answer calls_before calls
   step_at n before now answer calls_before calls step =
       subst (λ k. IsSuperstep (journey_rules values) arcs k before now answer calls_before calls) (add-one n) step
@@ -57,6 +57,7 @@ module _ (values : Values) (lawful : AreLawful values) (lives : List (List Inter
   starts_as : (now : Standing (Option ℕ) ℕ) → IsStart init now → (v t : ℕ) → vertex_value now.states v t ≡ vertex_value init v t
   starts_as now start v t = ap (λ states. vertex_value states v t) start.states
 
+  -- after one superstep or more their values are the best within so many
   pub steps_best : (answer : Bool) (answers : List Bool) (now : Standing (Option ℕ) ℕ) (calls : ℕ) → AreSteps (journey_rules values) arcs init (answer ∷ answers) now calls → StandsBest values lives arcs (vertex_value init) (suc (length answers)) now
   steps_best answer [] now calls (before, calls_before, steps, step) =
       after_first values lawful lives arcs lives_are stays (vertex_value init) before now answer calls_before calls (starts_on before steps.0) steps.0.inboxes (starts_as before steps.0) (step_at 0 before now answer calls_before calls step)
@@ -79,19 +80,21 @@ module _ (values : Values) (lawful : AreLawful values) (lives : List (List Inter
   both_best : (P Q : ℕ → Type 0) (o : Option ℕ) → IsBest AsGood P o → IsBest AsGood Q o → (value : Option ℕ) → IsBest AsGood P value → IsBest AsGood Q value
   both_best P Q o first then value best = subst (IsBest AsGood Q) (best_is_one values lawful P o value first best) then
 
+  -- values that are the best within k and within one hop less settle k
   pub settled_at : (k : ℕ) (best : ℕ → ℕ → Option ℕ) → ((v t : ℕ) → Best (k - 1) v t (best v t)) → ((v t : ℕ) → Best k v t (best v t)) → Settled k
   settled_at k best less all v t value = (
     both_best (Within (k - 1) v t) (Within k v t) (best v t) (less v t) (all v t) value,
     both_best (Within k v t) (Within (k - 1) v t) (best v t) (all v t) (less v t) value,
   )
 
-  -- where it answers yes, some value is better than the best within one hop less
+  -- where k + 1 is settled, the best within it are those within k
   same_value : (k v t : ℕ) (o p : Option ℕ) → Settled (suc k) → Best k v t o → Best (suc k) v t p → p ≡ o
   same_value k v t o p still less more =
       let number : k ≡ suc k - 1 = omega arith in
       let all = (still v t o).0 (subst (λ n. Best n v t o) number less) in
       best_is_one values lawful (Within (suc k) v t) p o more all
 
+  -- so it is not settled where the last superstep answers yes
   pub loud_last : (answers : List Bool) (now : Standing (Option ℕ) ℕ) (calls : ℕ) → AreSteps (journey_rules values) arcs init (true ∷ answers) now calls → Settled (suc (length answers)) → ⊥
   loud_last [] now calls (before, calls_before, steps, step) still =
       let found = some_value values lawful lives arcs lives_are stays (vertex_value init) before now true calls_before calls (starts_on before steps.0) steps.0.inboxes (starts_as before steps.0) (step_at 0 before now true calls_before calls step) refl in
