@@ -1,4 +1,9 @@
+pub mod BestNextLemmas
+pub mod BroughtLemmas
 pub mod CallLemmas
+pub mod JourneyAnswerLemmas
+pub mod JourneyRunLemmas
+pub mod JourneyStepLemmas
 pub mod NoteLemmas
 pub mod DropLemmas
 pub mod Examples
@@ -12,4 +17,5 @@ pub mod ScatterLemmas
 pub mod SendLemmas
 pub mod StepLemmas
 pub mod TableLemmas
+pub mod ToldLemmas
 pub mod WalkLemmas

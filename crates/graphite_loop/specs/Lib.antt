@@ -1,4 +1,5 @@
 pub mod Deliveries
+pub mod Journeys
 pub mod Order
 pub mod Points
 pub mod Progress

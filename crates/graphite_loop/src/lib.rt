@@ -3,6 +3,7 @@
 #![tactic(auto)]
 
 mod delivery;
+mod journeys;
 mod order;
 mod points;
 mod run;
@@ -12,6 +13,7 @@ mod vertex;
 mod walk;
 
 pub use delivery::Delivery;
+pub use journeys::run_journeys;
 pub use points::run_points;
 pub use run::Run;
 pub use steps::{Ran, run_steps};
