@@ -1,5 +1,5 @@
 -- The definitions on worked runs.
-use Rattle.std.proofs.Common.{◌≡◌, refl, ℕ, List, [], ◌∷◌, Option, None}
+use Rattle.std.proofs.Common.{◌≡◌, refl, ℕ, List, None}
 use Rattle.std.specs.Prelude.{codes, Some}
 use Rattle.std.specs.Fmt.{digits}
 use Rattle.graphite_part.specs.Runs.{runs_of}
@@ -13,7 +13,7 @@ use Rattle.graphite_words.specs.declared.query.Report.{Report}
 use Rattle.graphite_words.specs.declared.query.Report.TheVariants.{Intervals, Sums, At}
 use Rattle.graphite_words.specs.Words.{PlainQuery}
 use Rattle.graphite_top.specs.declared.status.Status.TheVariants.{Done, TextRefused, QueryRefused}
-use Rattle.graphite_top.specs.Output.{output_of, text_answer}
+use Rattle.graphite_top.specs.Output.{text_answer}
 
 -- a query for a program without options, for one with a source, with a key, and with a number of supersteps
 abbrev plain : Command → Report → PlainQuery

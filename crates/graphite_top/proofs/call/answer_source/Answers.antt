@@ -1,4 +1,4 @@
-use Rattle.std.proofs.Common.{◌≡◌, Err, ap, sym, subst, ◌∙◌}
+use Rattle.std.proofs.Common.{Err, ap, sym, subst, ◌∙◌}
 use Rattle.graphite_base.specs.Known.{IsWhole}
 use Rattle.graphite_words.specs.Query.{plain_query}
 use Rattle.graphite_top.specs.Output.{text_answer, text_refusal}

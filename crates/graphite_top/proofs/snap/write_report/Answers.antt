@@ -1,4 +1,4 @@
-use Rattle.std.proofs.Common.{◌≡◌, ◌++◌, subst, sym, OnOk, OnErr}
+use Rattle.std.proofs.Common.{subst, sym, OnOk, OnErr}
 use Rattle.std.specs.Io.KnownBytes.{Appends}
 use Rattle.graphite_snap.specs.Answers.{meaning_of, IsAnswer}
 use Rattle.graphite_report.specs.Written.{AppendsPrefix}
