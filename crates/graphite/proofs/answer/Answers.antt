@@ -1,17 +1,9 @@
 -- The answer to the words that are given, and what stands where they find no memory.
-use Rattle.std.proofs.Common.{ℕ, List, map, string_bytes, Option, Some, None, IfSome, refl, ap, subst, ◌∙◌, arith}
+use Rattle.std.proofs.Common.{map, string_bytes, refl, ap, subst, ◌∙◌, arith}
 use Rattle.std.specs.Vec.Iter.{into_iter_items}
-use Rattle.graphite_top.specs.declared.status.Status.TheVariants.{NoMemory}
-use Rattle.graphite_top.specs.Output.{Answer, output_of}
-use Rattle.graphite_top.specs.Call.{Answers}
-use Rattle.graphite_top.proofs.ThroughLemmas.{Appends-none}
+use Rattle.graphite_top.proofs.CallLemmas.{unwritten}
 use Rattle.graphite.specs.Served.{IsAnswered, words_of}
 use Rattle.graphite.proofs.answer.Goals as goal
-
--- nothing is a prefix of each text
-nothing : (output : Option Answer) (written : Option (List ℕ)) → IfSome output (λ answer. Answers NoMemory answer written written)
-nothing None written = tt
-nothing (Some answer) written = (0, Appends-none written)
 
 pub returns-in-Ok-clause-answered : goal.returns-in-Ok-clause-answered
 returns-in-Ok-clause-answered g c =
@@ -32,7 +24,7 @@ returns-in-Ok-clause-answered g c =
 
 pub returns-in-Err-clause-answered : goal.returns-in-Err-clause-answered
 returns-in-Err-clause-answered g c = record {
-  answer = nothing (output_of (words_of (into_iter_items c.args.given)) (g.S.Source.left c.args.source.now)) (g.K.Sink.written c.args.sink.now);
+  answer = unwritten (words_of (into_iter_items c.args.given)) (g.S.Source.left c.args.source.now) (g.K.Sink.written c.args.sink.now);
   complete = λ read written memory. absurd (memory refl);
   read_fault = λ e. cc;
   nothing_written = λ e. cc;

@@ -1,7 +1,7 @@
 -- Words that are refused leave the source as it was.
 use Rattle.std.proofs.Common.{◌≡◌, None, IfOk, sym, subst}
 use Rattle.std.specs.Vec.Iter.{into_iter_items}
-use Rattle.graphite_top.specs.Words.{query_of}
+use Rattle.graphite_words.specs.Words.{query_of}
 use Rattle.graphite.specs.Served.{words_of}
 use Rattle.graphite.proofs.serve.Goals as goal
 
