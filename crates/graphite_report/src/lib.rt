@@ -14,6 +14,3 @@ mod writer;
 pub use fault::ReportFault;
 pub use head::Head;
 pub use writer::{write_instant, write_intervals, write_sums};
-
-#[cfg(test)]
-mod tests;

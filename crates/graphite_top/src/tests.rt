@@ -111,7 +111,7 @@ fn searches(rt: HostRuntime) -> Result<(), Fail> {
 /// The values at one instant, and their sums.
 #[test]
 fn other_reports(rt: HostRuntime) -> Result<(), Fail> {
-    let cases: [(&[&str], Status, &[u8]); 6] = [
+    let cases: [(&[&str], Status, &[u8]); 8] = [
         (
             &["degree", "--at", "3"],
             Status::Done,
@@ -142,6 +142,17 @@ fn other_reports(rt: HostRuntime) -> Result<(), Fail> {
             &["degree", "--report=intervals"],
             Status::Done,
             STOPS_REPORT,
+        ),
+        // a vertex that has no value is alive all the same
+        (
+            &["bfs", "--source", "a", "--at", "6"],
+            Status::Done,
+            b"graphite bfs steps 4 calls 5\na 0\nb none\nc none\nend\n",
+        ),
+        (
+            &["bfs", "--source", "a", "--report", "sums"],
+            Status::Done,
+            b"graphite bfs steps 4 calls 5\na 10 10 0\nb 10 5 5\nc 6 2 4\nend\n",
         ),
     ];
     for (words, status, written) in cases {
