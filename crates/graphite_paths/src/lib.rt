@@ -13,4 +13,6 @@ pub use reach::Reach;
 pub use start::path_start;
 
 #[cfg(test)]
+mod start_tests;
+#[cfg(test)]
 mod tests;
