@@ -1,4 +1,6 @@
 //! The states to start with, on a table by hand.
+ghost use Rattle.graphite_paths.specs.Forward.{IsForward};
+
 use super::*;
 use graphite_api::{ArcTable, Kind, PathQuery};
 use graphite_part::Partition;
@@ -29,7 +31,9 @@ fn starts(
     kind: Kind,
     from: u64,
     until: u64,
-) -> Result<Vec<Partition<Option<u64>>>, Fail> {
+) -> Result<Vec<Partition<Option<u64>>>, Fail>
+    requires { IsForward kind }
+{
     let table = two_vertices(alloc)?;
     let query = PathQuery {
         kind,
@@ -37,8 +41,8 @@ fn starts(
         from,
         until,
     };
-    if table.vertices() < 2 || kind == Kind::Fastest || kind == Kind::Latest {
-        return Err("no such query")?;
+    if table.vertices() < 2 {
+        return Err("no such vertex")?;
     }
     Ok(path_start(alloc, &table, &query)?)
 }
