@@ -1,5 +1,5 @@
 -- The best of a vertex's value and a rising group is the lesser of the value and the group's first note.
-use Rattle.std.proofs.Common.{◌≡◌, refl, sym, ap, subst, ◌∙◌, ℕ, zero, suc, ◌+◌, ◌<◌, ◌≤◌, ◌==◌, nat_le, nat_lt, not, Bool, true, false, cond, List, [], ◌∷◌, get_or, slice_get, is_some, option_map, Option, None, Some, arith, ⊎_elim}
+use Rattle.std.proofs.Common.{◌≡◌, refl, sym, ap, subst, ◌∙◌, ℕ, suc, ◌+◌, ◌<◌, ◌≤◌, ◌==◌, nat_le, nat_lt, not, true, false, List, [], ◌∷◌, get_or, slice_get, option_map, Option, None, Some, arith, ⊎_elim}
 use Rattle.std.specs.List.Sorted.{IsSorted}
 use Rattle.std.specs.Ordering.{is_lt, nat_cmp}
 use Rattle.std.proofs.lemmas.Bool.{cases_lt, cond-true, cond-false, le-leb, leb-true, lt-ltb, ltb-true, eqb-true, false_from_ne_true}

@@ -1,1 +1,4 @@
 pub mod LeastLemmas
+pub mod StartLemmas
+pub mod WaitingLemmas
+pub mod StartedLemmas

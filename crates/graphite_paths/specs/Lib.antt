@@ -1,1 +1,3 @@
+pub mod Forward
 pub mod Least
+pub mod Start

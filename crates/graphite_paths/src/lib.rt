@@ -5,10 +5,14 @@ mod cheapest;
 mod earliest;
 mod least;
 mod reach;
+mod start;
 
 pub use cheapest::Cheapest;
 pub use earliest::Earliest;
 pub use reach::Reach;
+pub use start::path_start;
 
+#[cfg(test)]
+mod start_tests;
 #[cfg(test)]
 mod tests;

@@ -1,4 +1,4 @@
-use Rattle.std.proofs.Common.{◌≡◌, ◌∙◌, ap}
+use Rattle.std.proofs.Common.{◌∙◌, ap}
 use Rattle.graphite_paths.specs.Least.{lowered}
 use Rattle.graphite_paths.proofs.LeastLemmas.{later}
 use Rattle.graphite_paths.proofs.least.least_next.Goals as goal

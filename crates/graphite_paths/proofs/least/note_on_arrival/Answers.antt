@@ -1,4 +1,4 @@
-use Rattle.std.proofs.Common.{◌≡◌, ◌∙◌, sym}
+use Rattle.std.proofs.Common.{◌∙◌, sym}
 use Rattle.graphite_time.specs.Interval.{start_of}
 use Rattle.graphite_paths.proofs.LeastLemmas.{arrives}
 use Rattle.graphite_paths.proofs.least.note_on_arrival.Goals as goal

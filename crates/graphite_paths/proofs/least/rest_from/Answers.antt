@@ -1,4 +1,4 @@
-use Rattle.std.proofs.Common.{◌≡◌, ◌∙◌, sym, ap}
+use Rattle.std.proofs.Common.{◌∙◌, sym, ap}
 use Rattle.std.proofs.lemmas.Bool.{cond-true}
 use Rattle.graphite_time.specs.Interval.{holds}
 use Rattle.graphite_time.specs.Meet.{interval_between}
