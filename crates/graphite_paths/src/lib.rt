@@ -5,13 +5,17 @@ mod cheapest;
 mod earliest;
 mod least;
 mod reach;
+mod run;
 mod start;
 
 pub use cheapest::Cheapest;
 pub use earliest::Earliest;
 pub use reach::Reach;
+pub use run::{PathAnswer, PathFault, run_path};
 pub use start::path_start;
 
+#[cfg(test)]
+mod run_tests;
 #[cfg(test)]
 mod start_tests;
 #[cfg(test)]
