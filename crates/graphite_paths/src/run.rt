@@ -1,10 +1,9 @@
 //! Questions about journeys, answered for all vertices and instants at once.
 ghost use Rattle.std.specs.Prelude.{◌≡◌, ◌<◌, ◌≤◌, ℕ, All, IfOk, IsErrOf, length};
-ghost use Rattle.graphite_time.specs.declared.TheConstants.{LAST};
 ghost use Rattle.graphite_text.specs.Graph.{vertex_is_alive};
 ghost use Rattle.graphite_api.specs.declared.TheConstants.{STEP_LIMIT};
 ghost use Rattle.graphite_api.specs.declared.path_query.PathQuery.{PathQuery};
-ghost use Rattle.graphite_api.specs.Journey.{IsBestOverAll, IsBestWithin};
+ghost use Rattle.graphite_api.specs.Journey.{IsBestOverAll};
 ghost use Rattle.graphite_api.specs.Table.{vertex_is_alive as is_alive_in};
 ghost use Rattle.graphite_api.specs.TableHops.{IsHopOn, StaysAt};
 ghost use Rattle.graphite_hops.specs.Hops.{IsHopOf};
@@ -59,8 +58,7 @@ pub struct PathAnswer {
 /// journey. Its pieces hold exactly its life, and are as few as can be. The values are settled within `steps`: the
 /// journeys of one hop less have the same best ones, at all vertices and instants. Where they are not, the answer is
 /// [`PathFault::Budget`]. `made` is `steps`, or the first number within which they are settled. The vertex of the query is
-/// one of the graph, its window is not empty and ends by the horizon, and its kind is [`Kind::Reach`],
-/// [`Kind::Earliest`] or [`Kind::Cheapest`].
+/// one of the graph, and its kind is [`Kind::Reach`], [`Kind::Earliest`] or [`Kind::Cheapest`].
 pub fn run_path(
     alloc: Global,
     graph: &Graph<'_>,
@@ -68,7 +66,6 @@ pub fn run_path(
     steps: u32,
 ) -> Result<PathAnswer, PathFault>
     requires vertex { query.now.vertex < length graph.now.vertices }
-    requires window { (query.now.from < query.now.until) × (query.now.until ≤ graph.now.horizon) }
     requires kind { IsForward query.now.kind }
     requires some { 1 ≤ steps }
     requires few { steps ≤ STEP_LIMIT }
@@ -85,8 +82,6 @@ pub fn run_path(
         (vertex_is_alive graph.now) (IsHopOf graph.now) query.now steps → ⊥ }
 {
     let table = journey_arcs(alloc, graph)?;
-    // no instant is after the last one
-    let _horizon = graph.horizon();
     run_on_table(alloc, &table, query, steps)
 }
 
@@ -99,7 +94,6 @@ fn run_on_table(
     steps: u32,
 ) -> Result<PathAnswer, PathFault>
     requires vertex { query.now.vertex < length table.now.lives }
-    requires window { (query.now.from < query.now.until) × (query.now.until ≤ LAST) }
     requires kind { IsForward query.now.kind }
     requires stays { All (StaysAt table.now.lives) table.now.arcs }
     requires some { 1 ≤ steps }
