@@ -4,6 +4,7 @@ pub mod CutLemmas
 pub mod Examples
 pub mod FillLemmas
 pub mod MapLemmas
+pub mod MirrorLemmas
 pub mod PiecesLemmas
 pub mod SweepLemmas
 pub mod ZipLemmas

@@ -1,12 +1,14 @@
 //! The calls of a partition that take or make another one, and `cut`.
-ghost use Rattle.std.specs.Prelude.{◌≡◌, ℕ, IfOk, OnOk, OnErr};
+ghost use Rattle.std.specs.Prelude.{◌≡◌, ◌≤◌, ℕ, IfOk, OnOk, OnErr};
 ghost use Rattle.std.specs.Option.{ForSome};
-ghost use Rattle.graphite_part.specs.Calls.{cut_out, zipped, AreAnswers};
-ghost use Rattle.graphite_part.specs.Pieces.{value_at, AreRuns};
+ghost use Rattle.graphite_time.specs.declared.TheConstants.{LAST};
+ghost use Rattle.graphite_part.specs.Calls.{cut_out, mirrored_values, zipped, AreAnswers};
+ghost use Rattle.graphite_part.specs.Pieces.{value_at, last_end, AreRuns};
 
 use crate::cut::cut_pieces;
 use crate::fill::end_of_pieces;
 use crate::map::mapped_pieces;
+use crate::mirror::mirrored_pieces;
 use crate::zip::zipped_pieces;
 use crate::{Partition, Plain};
 use graphite_time::{Interval, NoMemory};
@@ -41,6 +43,18 @@ impl<T: Plain> Partition<T> {
         ensures { IfOk result (λ out. AreAnswers (F.post f.now) self.now out) }
     {
         let pieces = mapped_pieces(self.allocator(), self.pieces(), f)?;
+        Ok(Partition::from_pieces(pieces))
+    }
+
+    /// The partition in the mirror of the instants below `h`, where the instant `t` is `h - 1 - t`.
+    /// The last piece ends at most at `h`, which is at most [`LAST`](graphite_time::LAST). At no
+    /// instant from `h` on is there a value.
+    pub fn mirror(&self, h: u64) -> Result<Partition<T>, NoMemory>
+        requires within { last_end self.now ≤ h }
+        requires last { h ≤ LAST }
+        ensures { IfOk result (λ out. AreRuns (mirrored_values (value_at self.now) h) out) }
+    {
+        let pieces = mirrored_pieces(self.allocator(), self.pieces(), h)?;
         Ok(Partition::from_pieces(pieces))
     }
 

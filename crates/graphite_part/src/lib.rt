@@ -8,6 +8,7 @@ mod fill;
 mod lasting;
 mod laws;
 mod map;
+mod mirror;
 mod partition;
 mod piece;
 mod pieces;

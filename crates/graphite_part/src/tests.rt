@@ -1,5 +1,6 @@
 //! The calls of a partition, and a caller that cites what `map` gives.
-ghost use Rattle.std.specs.Prelude.{IfOk, option_map};
+ghost use Rattle.std.specs.Prelude.{◌≡◌, IfOk, option_map};
+ghost use Rattle.graphite_time.specs.Interval.{start_of, end_of};
 ghost use Rattle.graphite_part.specs.Pieces.{value_at, AreRuns};
 
 use super::*;
@@ -9,7 +10,10 @@ use std::fmt::Debug;
 use std::process::Abort;
 use std::test::Fail;
 
-fn interval(a: u64, b: u64) -> Result<Interval, Fail> {
+fn interval(a: u64, b: u64) -> Result<Interval, Fail>
+    ensures start { IfOk result (λ over. start_of over ≡ a) }
+    ensures end { IfOk result (λ over. end_of over ≡ b) }
+{
     Ok(Interval::new(a, b).ok_or("an empty interval")?)
 }
 
@@ -48,6 +52,16 @@ fn calls_on_two_pieces(rt: HostRuntime) -> Result<(), Fail> {
     assert_pieces(&rt, &pairs, &[(0, 1, (7, 9)), (5, 6, (7, 9))]);
     let zeros = zeros(&left)?;
     assert_pieces(&rt, &zeros, &[(0, 1, 0), (5, 6, 0)]);
+    Ok(())
+}
+
+#[test]
+fn the_mirror_of_two_pieces(rt: HostRuntime) -> Result<(), Fail> {
+    let mut pieces = Partition::new(rt.alloc());
+    pieces.push(interval(0, 1)?, 7u32)?;
+    pieces.push(interval(5, 6)?, 7)?;
+    let mirror = pieces.mirror(10)?;
+    assert_pieces(&rt, &mirror, &[(4, 5, 7), (9, 10, 7)]);
     Ok(())
 }
 

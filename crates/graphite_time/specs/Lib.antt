@@ -1,3 +1,4 @@
 pub mod Interval
 pub mod Life
 pub mod Meet
+pub mod Mirror

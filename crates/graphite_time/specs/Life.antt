@@ -21,3 +21,12 @@ ComeAfter before (span ∷ spans) = (end_of before < start_of span) × ComeAfter
 abbrev pub IsLife : List Interval → Type 0
 IsLife [] = ⊥
 IsLife (span ∷ spans) = ComeAfter span spans
+
+-- the instant where the last of these lifespans ends, or the one that is given
+abbrev pub life_end_from : ℕ → List Interval → ℕ
+life_end_from end [] = end
+life_end_from end (span ∷ spans) = life_end_from (end_of span) spans
+
+-- the instant where the last lifespan ends
+abbrev pub life_end : List Interval → ℕ
+life_end spans = life_end_from 0 spans

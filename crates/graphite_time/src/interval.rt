@@ -23,6 +23,7 @@ impl Default for Interval {
 impl Interval {
     ghost use Rattle.graphite_time.specs.Interval.{start_of, end_of, holds};
     ghost use Rattle.graphite_time.specs.Meet.{interval_between, meet_of};
+    ghost use Rattle.graphite_time.specs.Mirror.{mirrored, mirrored_interval};
 
     /// The instants from `a` to `b - 1`. `None` exactly where there are none, or `b` is past
     /// [`LAST`].
@@ -95,6 +96,22 @@ impl Interval {
             return None;
         }
         Interval::new(self.a - by, self.b - by)
+    }
+
+    /// The interval in the mirror of the instants below `h`, where the instant `t` is `h - 1 - t`.
+    /// The interval ends at most at `h`, which is at most [`LAST`].
+    pub fn mirror(self, h: u64) -> Interval
+        requires within { end_of self ≤ h }
+        requires last { h ≤ LAST }
+        ensures start { start_of result + end_of self ≡ h }
+        ensures end { end_of result + start_of self ≡ h }
+        ensures instants { (t : ℕ) → t < h → holds result t ≡ holds self (mirrored h t) }
+        ensures mirror { result ≡ mirrored_interval h self }
+    {
+        Interval {
+            a: h - self.b,
+            b: h - self.a,
+        }
     }
 }
 

@@ -1,7 +1,9 @@
 //! The lives of vertices and edges, as their lifespans.
-ghost use Rattle.std.specs.Prelude.{◌≡◌, ◌↔◌, ◌≤◌, ◌∷◌, [], ℕ, length, IsTrue, IsOk, IfOk};
-ghost use Rattle.graphite_time.specs.Interval.{holds};
-ghost use Rattle.graphite_time.specs.Life.{is_held, lifespan_at, IsLife};
+ghost use Rattle.std.specs.Prelude.{◌≡◌, ◌↔◌, ◌<◌, ◌≤◌, ◌++◌, ◌∷◌, [], ℕ, length, option_map, All, IsTrue, IsOk, IfOk, OnOk, OnErr};
+ghost use Rattle.graphite_time.specs.declared.TheConstants.{LAST};
+ghost use Rattle.graphite_time.specs.Interval.{start_of, end_of, holds};
+ghost use Rattle.graphite_time.specs.Life.{is_held, lifespan_at, life_end, IsLife};
+ghost use Rattle.graphite_time.specs.Mirror.{mirrored, mirrored_interval, mirrored_life};
 
 use crate::{Interval, NoMemory};
 use smallvec::SmallVec;
@@ -47,6 +49,33 @@ impl Life {
         })
     }
 
+    /// Adds a lifespan at the end. It begins after the end of the last one, with a gap of at least one
+    /// instant. After [`NoMemory`] nothing has changed.
+    pub fn push(&mut self, over: Interval) -> Result<(), NoMemory>
+        requires { life_end self.old < start_of over }
+        ensures ok { OnOk result (self.new ≡ self.old ++ over ∷ []) }
+        ensures err { OnErr result (self.new ≡ self.old) }
+    {
+        self.spans.push(over)?;
+        Ok(())
+    }
+
+    /// The life in the mirror of the instants below `h`, where the instant `t` is `h - 1 - t`: the
+    /// mirrored lifespans, the last one first. The life ends at most at `h`, which is at most
+    /// [`LAST`](crate::LAST).
+    pub fn mirror(&self, h: u64) -> Result<Life, NoMemory>
+        requires within { life_end self.now ≤ h }
+        requires last { h ≤ LAST }
+        ensures mirror { IfOk result (λ life. life ≡ mirrored_life h self.now) }
+        ensures end { IfOk result (λ life. life_end life ≤ h) }
+        ensures held { IfOk result (λ life. (t : ℕ) → t < h → is_held life t ≡ is_held self.now (mirrored h t)) }
+        ensures lifespans { IfOk result (λ life. (t : ℕ) → t < h
+            → lifespan_at life t ≡ option_map (mirrored_interval h) (lifespan_at self.now (mirrored h t))) }
+    {
+        let spans = mirrored_spans(*self.spans.allocator(), self.spans(), h)?;
+        Ok(Life { spans })
+    }
+
     /// The lifespans, in order.
     pub fn spans(&self) -> &[Interval]
         ensures spans { result.now ≡ self.now }
@@ -78,6 +107,23 @@ impl Life {
     }
 }
 
+/// The lifespans in the mirror of the instants below `h`, in rising order.
+fn mirrored_spans(
+    alloc: Global,
+    spans: &[Interval],
+    h: u64,
+) -> Result<SmallVec<Interval, 1>, NoMemory>
+    requires within { All (λ span. end_of span ≤ h) spans.now }
+    requires last { h ≤ LAST }
+    ensures { IfOk result (λ out. out.items ≡ mirrored_life h spans.now) }
+{
+    let mut out = SmallVec::with_capacity(alloc, spans.len())?;
+    for span in spans.iter().rev() {
+        out.push(span.mirror(h))?;
+    }
+    Ok(out)
+}
+
 /// The lifespan among these that holds the instant.
 fn stay_in(spans: &[Interval], t: u64) -> Option<Interval>
     requires { IsLife spans.now }
@@ -105,7 +151,10 @@ mod tests {
     use std::process::Abort;
     use std::test::Fail;
 
-    fn interval(a: u64, b: u64) -> Result<Interval, Fail> {
+    fn interval(a: u64, b: u64) -> Result<Interval, Fail>
+        ensures start { IfOk result (λ over. start_of over ≡ a) }
+        ensures end { IfOk result (λ over. end_of over ≡ b) }
+    {
         Ok(Interval::new(a, b).ok_or("an empty interval")?)
     }
 
@@ -135,6 +184,23 @@ mod tests {
             &rt,
             &life,
             &[(2, 4, true), (3, 4, true), (1, 3, false), (3, 7, false)],
+        );
+        Ok(())
+    }
+
+    #[test]
+    fn a_life_of_two_lifespans_and_its_mirror(rt: HostRuntime) -> Result<(), Fail> {
+        let late = interval(6, 9)?;
+        let mut life = Life::one(rt.alloc(), interval(2, 4)?)?;
+        life.push(late)?;
+        assert_holds(&rt, &life, 4, None);
+        assert_holds(&rt, &life, 6, Some(late));
+        assert_covers(&rt, &life, &[(3, 7, false)]);
+        assert_eq!(rt; late.mirror(10), interval(1, 4)?);
+        let mirror = life.mirror(10)?;
+        assert_eq!(rt;
+            mirror.spans(),
+            [interval(1, 4)?, interval(6, 8)?].as_slice()
         );
         Ok(())
     }

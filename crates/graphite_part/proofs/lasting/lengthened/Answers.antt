@@ -1,5 +1,5 @@
 -- The last one touches the next with its value, or does not.
-use Rattle.std.proofs.Common.{◌≡◌, sym, ap, rules, arith, map}
+use Rattle.std.proofs.Common.{sym, ap, rules, arith, map}
 use Rattle.std.proofs.lemmas.Bool.{iff_false}
 use Rattle.graphite_time.specs.Interval.{start_of, end_of}
 use Rattle.graphite_part.proofs.FillLemmas.{apart_from_last, last-seen, Lengthens-made}
