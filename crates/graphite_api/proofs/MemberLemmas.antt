@@ -1,5 +1,5 @@
 -- The elements of a list, by the element looked for.
-use Rattle.std.proofs.Common.{◌≡◌, refl, sym, ap, subst, ◌∙◌, ℕ, zero, suc, ◌<◌, Bool, true, false, List, [], ◌∷◌, length, get_or, filter, filter_map, Option, None, Some, Ordering, arith, inl, inr, ◌⊎◌, ⊎_elim}
+use Rattle.std.proofs.Common.{◌≡◌, refl, sym, ap, subst, ◌∙◌, ℕ, zero, suc, ◌<◌, Bool, true, false, List, [], ◌∷◌, length, get_or, map, filter, filter_map, Option, None, Some, Ordering, arith, inl, inr, ◌⊎◌, ⊎_elim}
 use Rattle.std.specs.List.{Contains, cons_option}
 use Rattle.std.specs.Ordering.{is_lt}
 use Rattle.std.proofs.lemmas.Option.{none-some, same_Some}
@@ -22,6 +22,21 @@ Contains-cases {X} x y xs h = by h.0 h.1 h.2
 
 pub Contains-nil : {X : Type 0} (x : X) → Contains [] x → ⊥
 Contains-nil x h = let less : h.0 < 0 = h.1 in absurd (omega (arith, less))
+
+-- the elements that are made of elements
+pub Contains-map : {X Y : Type 0} (f : X → Y) (xs : List X) (x : X) → Contains xs x → Contains (map f xs) (f x)
+Contains-map f [] x h = absurd (Contains-nil x h)
+Contains-map f (z ∷ zs) x h =
+    ⊎_elim (λ (is : z ≡ x). Contains-first (f x) (f z) (map f zs) (ap f is))
+    (λ (later : Contains zs x). Contains-later (f x) (f z) (map f zs) (Contains-map f zs x later))
+    (Contains-cases x z zs h)
+
+pub map-Contains : {X Y : Type 0} (f : X → Y) (xs : List X) (y : Y) → Contains (map f xs) y → (x : X) × Contains xs x × (f x ≡ y)
+map-Contains f [] y h = absurd (Contains-nil y h)
+map-Contains f (z ∷ zs) y h =
+    ⊎_elim (λ (is : f z ≡ y). (z, Contains-first z z zs refl, is))
+    (λ (later : Contains (map f zs) y). (let found = map-Contains f zs y later in (found.0, Contains-later found.0 z zs found.1, found.2)))
+    (Contains-cases y (f z) (map f zs) h)
 
 -- the elements that pass a test
 pub Contains-filter : {X : Type 0} (p : X → Bool) (xs : List X) (x : X) → Contains xs x → p x ≡ true → Contains (filter p xs) x

@@ -1,12 +1,13 @@
 -- The mirror of time: a journey is the mirrored journey there, and a latest departure is an earliest arrival there.
 use Rattle.std.proofs.Common.{◌≡◌, refl, sym, ap, subst, ◌∙◌, ℕ, ◌<◌, Bool, IsTrue, List, [], ◌∷◌, ◌++◌, length, map, Option, Some, None, option_map, arith}
 use Rattle.std.proofs.lemmas.List.{length-reverse, length-map}
+use Rattle.graphite_time.specs.Mirror.{mirrored}
 use Rattle.graphite_api.specs.declared.kind.Kind.TheVariants.{Latest}
 use Rattle.graphite_api.specs.declared.path_query.PathQuery.{PathQuery}
 use Rattle.graphite_api.specs.Best.{IsBest, IsLeast, IsGreatest}
 use Rattle.graphite_api.specs.Hop.{Hop, arrival, Waits}
 use Rattle.graphite_api.specs.Journey.{IsJourney, IsAskedFor, IsAsGood, journey_value, first_departure, last_arrival, IsValueWithin, IsBestWithin, IsBestOverAll}
-use Rattle.graphite_api.specs.Mirror.{mirrored, mirrored_hop, mirrored_hops, mirrored_query, AreMirrored}
+use Rattle.graphite_api.specs.Mirror.{mirrored_hop, mirrored_hops, mirrored_query, AreMirrored}
 use Rattle.graphite_api.proofs.WaitLemmas.{waits-first, waits-last}
 use Rattle.graphite_api.proofs.JourneyLemmas.{reverse-cons, journey-more, last_arrival-more}
 

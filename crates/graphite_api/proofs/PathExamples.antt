@@ -3,13 +3,14 @@ use Rattle.std.proofs.Common.{◌≡◌, refl, sym, subst, ℕ, ◌<◌, ◌==�
 use Rattle.std.specs.List.{Contains}
 use Rattle.std.proofs.lemmas.Option.{none-some}
 use Rattle.std.proofs.lemmas.Bool.{and_parts, and_from, eqb-true, ltb-true, le-leb}
+use Rattle.graphite_time.specs.Mirror.{mirrored}
 use Rattle.graphite_api.specs.declared.kind.Kind.TheVariants.{Earliest, Cheapest}
 use Rattle.graphite_api.specs.declared.path_query.PathQuery.{PathQuery}
 use Rattle.graphite_api.specs.Hop.{Hop}
 use Rattle.graphite_api.specs.KindValues.{earliest_values, cheapest_values, fastest_values}
 use Rattle.graphite_api.specs.Attained.{IsBestAttained}
 use Rattle.graphite_api.specs.Duration.{IsDurationOf}
-use Rattle.graphite_api.specs.Mirror.{mirrored, mirrored_hop}
+use Rattle.graphite_api.specs.Mirror.{mirrored_hop}
 use Rattle.graphite_api.specs.Written.{IsWrittenTo}
 use Rattle.graphite_api.proofs.KindLemmas.{earliest_is_lawful, cheapest_is_lawful, fastest_is_lawful}
 use Rattle.graphite_api.proofs.JourneyExamples.{ten, from_a, overtaking, overtaking_alive, overtaking_waits, overtaking_hops, late_hop, cycle, cycle_alive, cycle_waits, cycle_hops, chain_born, chain_dies, chain_hops}

@@ -1,13 +1,10 @@
--- The mirror of time: the instant t becomes h - 1 - t, and every hop leads the other way. A latest departure is an
+-- Hops, journeys and queries in the mirror of time: every hop leads the other way, and a latest departure is an
 -- earliest arrival there.
-use Rattle.std.specs.Prelude.{◌≡◌, ℕ, Bool, ◌+◌, ◌-◌, ◌<◌, IsTrue, List, map, reverse}
+use Rattle.std.specs.Prelude.{◌≡◌, ℕ, Bool, ◌-◌, ◌<◌, IsTrue, List, map, reverse}
+use Rattle.graphite_time.specs.Mirror.{mirrored}
 use Rattle.graphite_api.specs.declared.kind.Kind.TheVariants.{Earliest}
 use Rattle.graphite_api.specs.declared.path_query.PathQuery.{PathQuery}
 use Rattle.graphite_api.specs.Hop.{Hop, arrival}
-
--- the instant in the mirror of the instants below h
-abbrev pub mirrored : ℕ → ℕ → ℕ
-mirrored h t = h - (t + 1)
 
 -- the hop in the mirror: from where and when it arrives to where and when it departs
 abbrev pub mirrored_hop : ℕ → Hop → Hop

@@ -17,7 +17,7 @@ use Rattle.graphite_warp.specs.declared.message.Message.{Message}
 use Rattle.graphite_warp.specs.Warp.{held_notes, notes_at}
 use Rattle.graphite_api.specs.declared.arc.Arc.{Arc}
 use Rattle.graphite_api.specs.Rules.{Rules}
-use Rattle.graphite_api.proofs.MemberLemmas.{Contains-first, Contains-later, Contains-cases, Contains-nil, Contains-filter, filter-Contains, Contains-sorted, sorted-Contains}
+use Rattle.graphite_api.proofs.MemberLemmas.{Contains-first, Contains-later, Contains-cases, Contains-nil, Contains-filter, filter-Contains, Contains-sorted, sorted-Contains, Contains-map, map-Contains}
 use Rattle.graphite_loop.specs.Sweep.{brought_by, brought, delivered}
 
 -- the elements of the lists that are made of elements
@@ -34,21 +34,6 @@ flat_map-Contains {X} {Y} f (z ∷ zs) y h =
     ⊎_elim (λ (here : Contains (f z) y). (z, Contains-first z z zs refl, here))
     (λ (later : Contains (flat_map f zs) y). (let found = flat_map-Contains f zs y later in (found.0, Contains-later found.0 z zs found.1, found.2)))
     (Contains-append_cases (f z) (flat_map f zs) y h)
-
--- the elements that are made of elements
-Contains-map : {X Y : Type 0} (f : X → Y) (xs : List X) (x : X) → Contains xs x → Contains (map f xs) (f x)
-Contains-map f [] x h = absurd (Contains-nil x h)
-Contains-map f (z ∷ zs) x h =
-    ⊎_elim (λ (is : z ≡ x). Contains-first (f x) (f z) (map f zs) (ap f is))
-    (λ (later : Contains zs x). Contains-later (f x) (f z) (map f zs) (Contains-map f zs x later))
-    (Contains-cases x z zs h)
-
-map-Contains : {X Y : Type 0} (f : X → Y) (xs : List X) (y : Y) → Contains (map f xs) y → (x : X) × Contains xs x × (f x ≡ y)
-map-Contains f [] y h = absurd (Contains-nil y h)
-map-Contains f (z ∷ zs) y h =
-    ⊎_elim (λ (is : f z ≡ y). (z, Contains-first z z zs refl, is))
-    (λ (later : Contains (map f zs) y). (let found = map-Contains f zs y later in (found.0, Contains-later found.0 z zs found.1, found.2)))
-    (Contains-cases y (f z) (map f zs) h)
 
 -- the notes of a vertex at an instant are those of its messages that hold the instant
 pub Contains-held : {M : Type 0} (cmp : M → M → Ordering) (messages : List (Message M)) (t : ℕ) (message : Message M) → Contains messages message → IsTrue (holds message.over t) → Contains (notes_at cmp messages t) message.note
