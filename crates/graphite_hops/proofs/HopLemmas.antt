@@ -17,7 +17,7 @@ use Rattle.graphite_text.specs.Spans.{as_span}
 use Rattle.graphite_graph.specs.declared.ends.Ends.{Ends}
 use Rattle.graphite_graph.specs.Ends.{edge_ends}
 use Rattle.graphite_api.specs.declared.arc.Arc.{Arc}
-use Rattle.graphite_api.specs.Table.{life_of, IsArcOn}
+use Rattle.graphite_api.specs.Table.{life_of, vertex_is_alive as is_alive_in, IsArcOn}
 use Rattle.graphite_api.specs.TableHops.{hop_along, StaysAt}
 use Rattle.graphite_hops.specs.Arcs.{travel_at, RunsAdded}
 use Rattle.graphite_hops.specs.Departures.{parts_of}
@@ -32,6 +32,19 @@ use Rattle.graphite_hops.proofs.TravelLemmas.{FitsEnds, ends_read}
 -- a vertex is alive where one of its lifespans in the table holds the instant
 alive_at : (graph : PlainGraph) (lives : List (List Interval)) (v t : ℕ) → map (map as_span) lives ≡ map (λ vertex. vertex.life) graph.vertices → vertex_is_alive graph v t ≡ is_some (lifespan_at (life_of lives v) t)
 alive_at graph lives v t same = sym (table_alive graph lives lives v t same refl) ∙ sym (is_some-lifespan_at (life_of lives v) t)
+
+-- nothing is alive in the table from the horizon on, since nothing is in the graph
+pub table_below : (graph : PlainGraph) (lives table : List (List Interval)) (v t : ℕ) → map (map as_span) lives ≡ map (λ vertex. vertex.life) graph.vertices → table ≡ lives → ((v t : ℕ) → v < length graph.vertices → graph.horizon ≤ t → vertex_is_alive graph v t ≡ false) → is_alive_in table v t ≡ true → t < graph.horizon
+table_below graph lives table v t same is ended alive =
+    let held : vertex_is_alive graph v t ≡ true = sym (table_alive graph lives table v t same is) ∙ alive in
+    ⊎_elim (λ (early : t < graph.horizon). early)
+    (λ (late : graph.horizon ≤ t).
+    ⊎_elim
+    (λ (less : v < length graph.vertices). absurd (false≢true (sym (ended v t less late) ∙ held)))
+    (λ (past : length graph.vertices ≤ v).
+    absurd (false≢true (sym (ap (λ o. is_alive (option_map_or (λ vertex. vertex.life) o []) t) (slice_get_past graph.vertices v past)) ∙ held)))
+    (cases_lt v (length graph.vertices)))
+    (cases_lt t graph.horizon)
 
 both_tests : {X : Type 0} (f : Interval → X) (below alive : Bool) (stay : Option Interval) → alive ≡ is_some stay → cond below (option_map f stay) None ≡ cond (below && alive) (option_map f stay) None
 both_tests f true true stay is = refl

@@ -2,7 +2,7 @@
 use Rattle.std.proofs.Common.{◌≡◌, ◌≢◌, refl, sym, ap, subst, ◌∙◌, ℕ, zero, suc, ◌+◌, ◌<◌, ◌≤◌, arith, Bool, true, false, List, [], ◌∷◌, ◌++◌, All, map, length, filter, Option, Some, None, ⊎_elim, ◌↔◌}
 use Rattle.std.specs.List.{Contains, flat_map, range_with_len}
 use Rattle.std.proofs.lemmas.Bool.{cases_lt, cond-true, cond-false, eqb-true, false_from_ne_true, and_parts}
-use Rattle.std.proofs.lemmas.List.{length-append, length-map, get_or-map}
+use Rattle.std.proofs.lemmas.List.{length-append}
 use Rattle.std.proofs.lemmas.List.Elements.{All-nil, All-append, All-map, All-weaker, All-contains, Contains-append_left, Contains-append_right, filter-append}
 use Rattle.std.proofs.lemmas.List.Sorted.{Contains-permutation, length_permutation}
 use Rattle.std.proofs.lemmas.Option.{none-some, same_Some}
@@ -17,6 +17,7 @@ use Rattle.graphite_text.specs.Spans.{as_span}
 use Rattle.graphite_warp.specs.Sorted.{sorted}
 use Rattle.graphite_warp.proofs.SortedLemmas.{IsPermutation-sorted}
 use Rattle.graphite_api.specs.declared.arc.Arc.{Arc}
+use Rattle.graphite_api.proofs.MemberLemmas.{Contains-map}
 use Rattle.graphite_api.specs.ArcOrder.{arc_order}
 use Rattle.graphite_api.specs.Hop.{Hop}
 use Rattle.graphite_api.specs.TableHops.{hop_along, IsHopOn, StaysAt}
@@ -65,11 +66,6 @@ value_at-piece {X} (piece ∷ pieces) t x is = by (holds piece.over t) refl (val
     by true inside rest =
         (piece, (0, omega arith, refl), inside, same_Some _ _ (sym (value_at-here piece pieces t inside) ∙ is))
     by false outside rest = later (rest (sym (value_at-later piece pieces t outside) ∙ is))
-
-Contains-map : {X Y : Type 0} (f : X → Y) (xs : List X) (x : X) → Contains xs x → Contains (map f xs) (f x)
-Contains-map f xs x has =
-    let less : has.0 < length xs = has.1 in
-    (has.0, omega (arith, less, length-map xs f), get_or-map f xs has.0 x (f x) less ∙ ap f has.2)
 
 Contains-range : (f : ℕ → List Arc) (arc : Arc) (e a n : ℕ) → a ≤ e → e < a + n → Contains (f e) arc → Contains (flat_map f (range_with_len a n)) arc
 Contains-range f arc e a zero low high has = absurd (omega (arith, low, high))

@@ -142,3 +142,24 @@ fn hops_are_cut_where_the_cost_changes(rt: HostRuntime) -> Result<(), Fail> {
     assert_hops(&rt, &table, hops_of_too_late());
     Ok(())
 }
+
+/// The hops of the edge that is slow at first and fast later, in the mirror of its 20 instants.
+fn mirrored_hops_of_slow_then_fast() -> &'static [HopRow] {
+    &[
+        (((0, 1, 0), (6, 11), (9, 1)), (0, 20)),
+        (((0, 1, 0), (9, 14), (1, 1)), (0, 20)),
+    ]
+}
+
+fn mirrored_hops_of(alloc: Global, text: &[u8]) -> Result<ArcTable, Fail> {
+    let graph = load(alloc, text)?;
+    let table = journey_arcs(alloc, &graph)?;
+    Ok(mirror(alloc, &table, graph.horizon())?)
+}
+
+#[test]
+fn hops_depart_in_the_mirror_where_and_when_they_arrived(rt: HostRuntime) -> Result<(), Fail> {
+    let table = mirrored_hops_of(rt.alloc(), slow_then_fast())?;
+    assert_hops(&rt, &table, mirrored_hops_of_slow_then_fast());
+    Ok(())
+}

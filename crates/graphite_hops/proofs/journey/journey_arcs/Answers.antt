@@ -1,4 +1,4 @@
-use Rattle.std.proofs.Common.{◌≡◌, ℕ, ◌≤◌, All, filter, length, sym, ◌∙◌, ◌↔◌}
+use Rattle.std.proofs.Common.{◌≡◌, ℕ, ◌<◌, ◌≤◌, All, IsTrue, filter, length, sym, ◌∙◌, ◌↔◌}
 use Rattle.graphite_text.specs.Graph.{vertex_is_alive}
 use Rattle.graphite_warp.specs.Sorted.{sorted}
 use Rattle.graphite_api.specs.ArcOrder.{arc_order}
@@ -6,6 +6,7 @@ use Rattle.graphite_api.specs.Hop.{Hop}
 use Rattle.graphite_api.specs.Table.{Table, vertex_is_alive as is_alive_in}
 use Rattle.graphite_api.specs.TableHops.{IsHopOn, StaysAt}
 use Rattle.graphite_hops.specs.Hops.{is_arc_at, IsHopOf, AreHopArcs}
+use Rattle.graphite_hops.proofs.HopLemmas.{table_below}
 use Rattle.graphite_hops.proofs.JourneyLemmas.{hop_table, table_hops, table_stays_at, table_once}
 use Rattle.graphite_hops.proofs.LinkLemmas.{table_alive}
 use Rattle.graphite_hops.proofs.TravelLemmas.{IfOk-to, IfOk-both}
@@ -15,6 +16,12 @@ pub returns-clause-alive : goal.returns-clause-alive
 returns-clause-alive c =
     IfOk-to (λ (table : Table). table.lives ≡ c.in_ok-lives.lives.items) (λ table. (v t : ℕ) → is_alive_in table.lives v t ≡ vertex_is_alive c.args.graph.now v t) c.new.result
     (λ table is v t. table_alive c.args.graph.now c.in_ok-lives.lives.items table.lives v t c.in_ok-lives.ensures.lives is)
+    c.new.ensures.lives
+
+pub returns-clause-below : goal.returns-clause-below
+returns-clause-below c =
+    IfOk-to (λ (table : Table). table.lives ≡ c.in_ok-lives.lives.items) (λ table. (v t : ℕ) → IsTrue (is_alive_in table.lives v t) → t < c.args.graph.now.horizon) c.new.result
+    (λ table is v t. table_below c.args.graph.now c.in_ok-lives.lives.items table.lives v t c.in_ok-lives.ensures.lives is c.horizon-horizon.ensures.ended)
     c.new.ensures.lives
 
 pub returns-clause-hops : goal.returns-clause-hops
