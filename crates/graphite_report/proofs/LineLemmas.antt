@@ -1,13 +1,13 @@
 -- The lines of a report: those of a vertex are what its form says of its values, and those of all make the report.
-use Rattle.std.proofs.Common.{◌≡◌, ℕ, ◌+◌, ◌<◌, ◌≤◌, List, [], ◌∷◌, ◌++◌, length, map, drop, flat_map, Option, Some, None, option_map, refl, sym, ap, ◌∙◌, arith, eqb-true, get_or, append_assoc}
-use Rattle.std.specs.Prelude.{slice_get, slice_index_or, codes}
+use Rattle.std.proofs.Common.{◌≡◌, ℕ, ◌+◌, ◌<◌, ◌≤◌, List, [], ◌∷◌, ◌++◌, length, map, drop, flat_map, Option, Some, None, option_map, refl, sym, ap, ◌∙◌, eqb-true, get_or, append_assoc}
+use Rattle.std.specs.Prelude.{slice_get, codes}
 use Rattle.std.proofs.lemmas.Bool.{eq-eqb}
 use Rattle.std.proofs.lemmas.Option.{slice_get_within, get_or_from_slice_get, same_Some}
 use Rattle.std.proofs.lemmas.List.{drop_all, drop_more, get_or_default}
 use Rattle.graphite_text.specs.Graph.{PlainVertex, PlainGraph}
 use Rattle.graphite_graph.specs.Ends.{vertex_name}
 use Rattle.graphite_part.specs.declared.piece.Piece.{Piece}
-use Rattle.graphite_part.specs.Pieces.{AreRuns, IsChain, value_at, run_of}
+use Rattle.graphite_part.specs.Pieces.{IsChain, value_at, run_of}
 use Rattle.graphite_part.specs.Runs.{TellsApart}
 use Rattle.graphite_part.proofs.PiecesLemmas.{runs_of-pieces}
 use Rattle.graphite_report.specs.declared.form.Form.{Form}
@@ -47,18 +47,18 @@ vertices_from vertices v vertex at =
     drop_more vertices v vertex within ∙ ap (λ x. x ∷ drop (v + 1) vertices) (get_or_from_slice_get vertices v vertex vertex at)
 
 -- the lines of a vertex are the next of the report
-vertex_step : (form : Form) (graph : PlainGraph) (values : ℕ → Values) (v : ℕ) (name lines : List ℕ) → vertex_name graph v ≡ Some name → lines ≡ lines_in form graph.horizon name (values v)
+vertex_step : (form : Form) (graph : PlainGraph) (values : ℕ → Values) (v : ℕ) (name lines : List ℕ) → vertex_name graph v ≡ Some name → lines ≡ lines_in form graph.horizon values v name
     → lines ++ lines_from form graph values (v + 1) ≡ lines_from form graph values v
 unfolding lines_from
 vertex_step form graph values v name lines named is =
     let read = vertex_read (slice_get graph.vertices v) name named in
     let here = vertices_from graph.vertices v read.0 read.1 in
-    let said : lines ≡ lines_in form graph.horizon read.0.name (values v) = is ∙ ap (λ n. lines_in form graph.horizon n (values v)) (sym read.2) in
-    ap (λ xs. xs ++ lines_of_vertices (lines_in form graph.horizon) values (v + 1) (drop (v + 1) graph.vertices)) said
-    ∙ ap (λ vs. lines_of_vertices (lines_in form graph.horizon) values v vs) (sym here)
+    let said : lines ≡ lines_in form graph.horizon values v read.0.name = is ∙ ap (lines_in form graph.horizon values v) (sym read.2) in
+    ap (λ xs. xs ++ lines_of_vertices (lines_in form graph.horizon values) (v + 1) (drop (v + 1) graph.vertices)) said
+    ∙ ap (lines_of_vertices (lines_in form graph.horizon values) v) (sym here)
 
 -- so they are where they were appended to what was there
-pub pushed_step : (form : Form) (graph : PlainGraph) (values : ℕ → Values) (v : ℕ) (name lines old new : List ℕ) → vertex_name graph v ≡ Some name → new ≡ old ++ lines → lines ≡ lines_in form graph.horizon name (values v)
+pub pushed_step : (form : Form) (graph : PlainGraph) (values : ℕ → Values) (v : ℕ) (name lines old new : List ℕ) → vertex_name graph v ≡ Some name → new ≡ old ++ lines → lines ≡ lines_in form graph.horizon values v name
     → new ++ lines_from form graph values (v + 1) ≡ old ++ lines_from form graph values v
 pushed_step form graph values v name lines old new named pushed is =
     ap (λ xs. xs ++ lines_from form graph values (v + 1)) pushed ∙ append_assoc old lines (lines_from form graph values (v + 1))
@@ -67,7 +67,7 @@ pushed_step form graph values v name lines old new named pushed is =
 -- behind the last vertex no line is to come
 pub lines_from-end : (form : Form) (graph : PlainGraph) (values : ℕ → Values) (v : ℕ) → length graph.vertices ≤ v → lines_from form graph values v ≡ []
 unfolding lines_from
-lines_from-end form graph values v h = ap (λ vs. lines_of_vertices (lines_in form graph.horizon) values v vs) (drop_all v graph.vertices h)
+lines_from-end form graph values v h = ap (lines_of_vertices (lines_in form graph.horizon values) v) (drop_all v graph.vertices h)
 
 -- ---- the whole report
 
@@ -75,4 +75,4 @@ lines_from-end form graph values v h = ap (λ vs. lines_of_vertices (lines_in fo
 pub report_from : (form : Form) (heading : Heading) (graph : PlainGraph) (values : ℕ → Values) (first : List ℕ) → first ≡ first_line heading → (first ++ lines_from form graph values 0) ++ codes "end\n" ≡ report_in form heading graph values
 unfolding lines_from report_in
 report_from form heading graph values first is =
-    ap (λ xs. (xs ++ lines_of_vertices (lines_in form graph.horizon) values 0 graph.vertices) ++ codes "end\n") is
+    ap (λ xs. (xs ++ lines_of_vertices (lines_in form graph.horizon values) 0 graph.vertices) ++ codes "end\n") is

@@ -1,18 +1,12 @@
--- The definitions on worked values: two vertices, of which one lives shorter.
-use Rattle.std.proofs.Common.{◌≡◌, ℕ, zero, suc, ◌+◌, ◌<◌, ◌≤◌, Bool, true, false, cond, List, [], ◌∷◌, length, Option, Some, None, refl, sym, ap, ◌∙◌, arith, subst, nat_lt, nat_le, ◌&&◌}
+-- The definitions on worked values: two vertices, of which one lives shorter, and three with durations.
+use Rattle.std.proofs.Common.{◌≡◌, ℕ, zero, suc, cond, [], ◌∷◌, Some, None, refl, nat_lt, nat_le, ◌&&◌}
 use Rattle.std.specs.Prelude.{codes}
 use Rattle.std.specs.Fmt.{digits}
-use Rattle.std.proofs.lemmas.Bool.{cond-false, cases_lt}
-use Rattle.std.proofs.lemmas.Bool.Decides.{nat_tests}
-use Rattle.graphite_time.specs.declared.interval.Interval.{Interval}
-use Rattle.graphite_time.specs.Interval.{start_of, end_of, holds}
-use Rattle.graphite_time.proofs.LifeLemmas.{holds_before, holds_after}
-use Rattle.graphite_part.specs.declared.piece.Piece.{Piece}
-use Rattle.graphite_part.specs.Pieces.{value_at, painted, AreRuns}
+use Rattle.graphite_api.specs.declared.duration.Duration.{Duration}
 use Rattle.graphite_part.specs.Runs.{runs_of}
-use Rattle.graphite_text.specs.Graph.{PlainGraph, vertex_is_alive}
+use Rattle.graphite_text.specs.Graph.{PlainGraph}
 use Rattle.graphite_text.specs.Reading.{Accepted, reading_of}
-use Rattle.graphite_report.specs.Given.{AreOfVertices, values_in}
+use Rattle.graphite_report.specs.Given.{durations_in}
 use Rattle.graphite_report.specs.Report.{Heading, Values, vertex_lines, sums_line, intervals_report, instant_report, sums_report}
 
 -- the graph of the text
@@ -40,7 +34,7 @@ counted = record { program = codes "test"; steps = 2; calls = Some 5 }
 uncounted : Heading
 uncounted = record { program = codes "test"; steps = 2; calls = None }
 
-intervals : intervals_report counted two values ≡ codes "graphite test steps 2 calls 5\na 0 4 3\na 4 10 none\nb 2 5 7\nend\n"
+intervals : intervals_report counted two values (durations_in []) ≡ codes "graphite test steps 2 calls 5\na 0 4 3\na 4 10 none\nb 2 5 7\nend\n"
 unfolding intervals_report vertex_lines runs_of digits counted
 intervals = refl
 
@@ -64,3 +58,42 @@ sums = refl
 no_number : sums_line (codes "a") (λ t. cond (nat_lt t 10) (Some None) None) 10 ≡ codes "a 10 0 0\n"
 unfolding sums_line digits
 no_number = refl
+
+-- ---- durations
+
+-- Three vertices over ten instants. Journeys start at a at the instants 0 and 1, one way leads from there to b in one
+-- instant, and none to c.
+abbrev three : PlainGraph
+three = record {
+  horizon = 10;
+  vertices = record { name = codes "a"; life = record { a = 0; b = 10 } ∷ [] } ∷ record { name = codes "b"; life = record { a = 0; b = 10 } ∷ [] } ∷ record { name = codes "c"; life = record { a = 0; b = 10 } ∷ [] } ∷ [];
+  edges = [];
+  vertex_properties = [];
+  edge_properties = [];
+}
+
+-- the latest start from which a vertex is reached by an instant
+abbrev latest_starts : ℕ → Values
+latest_starts zero t = cond (nat_lt t 10) (Some (Some (cond (nat_lt t 1) 0 1))) None
+latest_starts (suc zero) t = cond (nat_lt t 10) (cond (nat_lt t 1) (Some None) (Some (Some (cond (nat_lt t 2) 0 1)))) None
+latest_starts (suc (suc v)) t = cond (nat_lt t 10) (Some None) None
+
+at_once : Duration
+at_once = record { length = 0; start = 0; arrive = 0 }
+
+one_instant : Duration
+one_instant = record { length = 1; start = 0; arrive = 1 }
+
+fastest : Heading
+fastest = record { program = codes "fastest"; steps = 2; calls = None }
+
+durations : intervals_report fastest three latest_starts (durations_in (Some at_once ∷ Some one_instant ∷ None ∷ []))
+    ≡ codes "graphite fastest steps 2\na 0 1 0\na 1 10 1\n= a 0 0 0\nb 0 1 none\nb 1 2 0\nb 2 10 1\n= b 1 0 1\nc 0 10 none\n= c none\nend\n"
+unfolding intervals_report vertex_lines runs_of digits fastest at_once one_instant
+durations = refl
+
+-- a list that is shorter says nothing of the vertices behind it
+durations_of_one : intervals_report fastest three latest_starts (durations_in (Some at_once ∷ []))
+    ≡ codes "graphite fastest steps 2\na 0 1 0\na 1 10 1\n= a 0 0 0\nb 0 1 none\nb 1 2 0\nb 2 10 1\nc 0 10 none\nend\n"
+unfolding intervals_report vertex_lines runs_of digits fastest at_once
+durations_of_one = refl

@@ -1,5 +1,6 @@
--- What a writer of a report is given: what its first line says, and pieces for each vertex.
-use Rattle.std.specs.Prelude.{◌≡◌, ℕ, ◌<◌, false, List, [], length, slice_index_or, Option, None}
+-- What a writer of a report is given: what its first line says, pieces for each vertex, and durations.
+use Rattle.std.specs.Prelude.{◌≡◌, ℕ, ◌<◌, false, List, [], length, slice_get, slice_index_or, Option, None}
+use Rattle.graphite_api.specs.declared.duration.Duration.{Duration}
 use Rattle.graphite_part.specs.declared.piece.Piece.{Piece}
 use Rattle.graphite_part.specs.Pieces.{value_at}
 use Rattle.graphite_text.specs.Graph.{PlainGraph, vertex_is_alive}
@@ -13,6 +14,10 @@ heading_of head = record { program = head.program.now; steps = head.steps; calls
 -- what is printed of each vertex, where each has its pieces
 abbrev pub values_in : List (List (Piece (Option ℕ))) → ℕ → Values
 values_in all v t = value_at (slice_index_or all v []) t
+
+-- what is said of the duration of each vertex: the entry at its place, if there is one
+abbrev pub durations_in : List (Option Duration) → ℕ → Option (Option Duration)
+durations_in durations v = slice_get durations v
 
 -- pieces for each vertex, with nothing at an instant at which it is not alive
 pub record AreOfVertices (graph : PlainGraph) (all : List (List (Piece (Option ℕ)))) : Type 0 where

@@ -1,8 +1,10 @@
 -- A report is a text: a first line, the lines of each vertex in order of declaration, and `end`. What is
 -- said of a vertex is a function of its printed values, and these are a function of the instant. A printed
--- value is a number or none; a vertex has one at exactly the instants at which it is alive.
+-- value is a number or none; a vertex has one at exactly the instants at which it is alive. Of its duration
+-- something is said or nothing: how long a journey takes, or none.
 use Rattle.std.specs.Prelude.{ℕ, ◌+◌, Bool, true, false, ◌==◌, List, [], ◌∷◌, ◌++◌, flat_map, codes, decimal, Option, Some, None, is_some, unwrap_or, option_and_then, count_by, sum_by}
 use Rattle.std.specs.List.{range_with_len}
+use Rattle.graphite_api.specs.declared.duration.Duration.{Duration}
 use Rattle.graphite_part.specs.Runs.{Run, runs_of}
 use Rattle.graphite_text.specs.Graph.{PlainVertex, PlainGraph}
 
@@ -34,16 +36,15 @@ abbrev pub first_line : Heading → List ℕ
 first_line heading =
     codes "graphite " ++ heading.program ++ codes " steps " ++ decimal heading.steps ++ calls_text heading.calls ++ codes "\n"
 
--- the lines of the vertices from a number on, where these are the lines of a vertex with this name and these values
-abbrev pub lines_of_vertices : (List ℕ → Values → List ℕ) → (ℕ → Values) → (first : ℕ) → List PlainVertex → List ℕ
-lines_of_vertices lines values n [] = []
-lines_of_vertices lines values n (vertex ∷ vertices) =
-    lines vertex.name (values n) ++ lines_of_vertices lines values (n + 1) vertices
+-- the lines of the vertices from a number on, where these are the lines of a vertex with this number and this name
+abbrev pub lines_of_vertices : (ℕ → List ℕ → List ℕ) → (first : ℕ) → List PlainVertex → List ℕ
+lines_of_vertices lines n [] = []
+lines_of_vertices lines n (vertex ∷ vertices) = lines n vertex.name ++ lines_of_vertices lines (n + 1) vertices
 
 -- a report that has these lines for a vertex
-abbrev pub report_with : (List ℕ → Values → List ℕ) → Heading → PlainGraph → (ℕ → Values) → List ℕ
-report_with lines heading graph values =
-    first_line heading ++ lines_of_vertices lines values 0 graph.vertices ++ codes "end\n"
+abbrev pub report_with : (ℕ → List ℕ → List ℕ) → Heading → PlainGraph → List ℕ
+report_with lines heading graph =
+    first_line heading ++ lines_of_vertices lines 0 graph.vertices ++ codes "end\n"
 
 -- ---- the intervals report
 
@@ -56,9 +57,21 @@ run_line name run =
 unfoldable pub vertex_lines : List ℕ → Values → (horizon : ℕ) → List ℕ
 vertex_lines name values horizon = flat_map (run_line name) (runs_of same_value values horizon)
 
--- the intervals report of a graph whose vertices have these values
-unfoldable pub intervals_report : Heading → PlainGraph → (ℕ → Values) → List ℕ
-intervals_report heading graph values = report_with (λ name vs. vertex_lines name vs graph.horizon) heading graph values
+-- LENGTH START ARRIVE, or none
+abbrev pub duration_text : Option Duration → List ℕ
+duration_text None = codes "none"
+duration_text (Some duration) =
+    decimal duration.length ++ codes " " ++ decimal duration.start ++ codes " " ++ decimal duration.arrive
+
+-- = NAME LENGTH START ARRIVE, or = NAME none, and no line where nothing is said of the duration
+abbrev pub duration_line : List ℕ → Option (Option Duration) → List ℕ
+duration_line name None = []
+duration_line name (Some duration) = codes "= " ++ name ++ codes " " ++ duration_text duration ++ codes "\n"
+
+-- the intervals report of a graph whose vertices have these values and of whose durations this is said
+unfoldable pub intervals_report : Heading → PlainGraph → (ℕ → Values) → (ℕ → Option (Option Duration)) → List ℕ
+intervals_report heading graph values durations =
+    report_with (λ v name. vertex_lines name (values v) graph.horizon ++ duration_line name (durations v)) heading graph
 
 -- ---- the report of one instant
 
@@ -69,7 +82,7 @@ instant_lines name (Some value) = name ++ codes " " ++ value_text value ++ codes
 
 -- the report of an instant of a graph whose vertices have these values
 unfoldable pub instant_report : Heading → PlainGraph → (ℕ → Values) → (t : ℕ) → List ℕ
-instant_report heading graph values t = report_with (λ name vs. instant_lines name (vs t)) heading graph values
+instant_report heading graph values t = report_with (λ v name. instant_lines name (values v t)) heading graph
 
 -- ---- the report of sums
 
@@ -101,4 +114,4 @@ sums_line name values horizon =
 
 -- the report of the sums of a graph whose vertices have these values
 unfoldable pub sums_report : Heading → PlainGraph → (ℕ → Values) → List ℕ
-sums_report heading graph values = report_with (λ name vs. sums_line name vs graph.horizon) heading graph values
+sums_report heading graph values = report_with (λ v name. sums_line name (values v) graph.horizon) heading graph

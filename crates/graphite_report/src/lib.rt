@@ -1,6 +1,6 @@
-//! Reports of the values of a graph's vertices: the intervals on which they are the same, those of one
-//! instant, and their sums. The texts stand in this crate's `specs`: a report is a function of the values,
-//! and the values are functions of the instant.
+//! Reports of the values of a graph's vertices: the intervals on which they are the same, with durations
+//! where there are some, those of one instant, and their sums. The texts stand in this crate's `specs`: a
+//! report is a function of the values, and the values are functions of the instant.
 #![tactic(auto)]
 
 mod buffer;

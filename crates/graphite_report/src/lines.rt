@@ -2,10 +2,11 @@
 ghost use Rattle.std.specs.Prelude.{◌≡◌, ◌++◌, map, flat_map, OnOk};
 ghost use Rattle.graphite_part.specs.Pieces.{run_of, value_at};
 ghost use Rattle.graphite_report.specs.Given.{heading_of};
-ghost use Rattle.graphite_report.specs.Report.{calls_text, first_line, instant_lines, run_line, totals_line, value_text};
+ghost use Rattle.graphite_report.specs.Report.{calls_text, duration_line, duration_text, first_line, instant_lines, run_line, totals_line, value_text};
 
 use crate::Head;
 use crate::sums::Totals;
+use graphite_api::Duration;
 use graphite_base::push_number;
 use graphite_part::{Partition, Piece};
 use graphite_time::NoMemory;
@@ -72,6 +73,41 @@ pub fn push_runs(
     for piece in pieces {
         push_run(into, name, *piece)?;
     }
+    Ok(())
+}
+
+/// Appends a duration as it is printed.
+fn push_duration_text(into: &mut Vec<u8>, duration: Option<Duration>) -> Result<(), NoMemory>
+    ensures { OnOk result (into.new.items ≡ into.old.items ++ duration_text duration) }
+{
+    let Some(duration) = duration else {
+        into.extend_from_slice(b"none")?;
+        return Ok(());
+    };
+    push_number(into, u128::from(duration.length))?;
+    into.extend_from_slice(b" ")?;
+    push_number(into, u128::from(duration.start))?;
+    into.extend_from_slice(b" ")?;
+    push_number(into, u128::from(duration.arrive))?;
+    Ok(())
+}
+
+/// Appends the line of the duration of a vertex, where there is an entry for it.
+pub fn push_duration(
+    into: &mut Vec<u8>,
+    name: &[u8],
+    entry: Option<Option<Duration>>,
+) -> Result<(), NoMemory>
+    ensures { OnOk result (into.new.items ≡ into.old.items ++ duration_line name.now entry) }
+{
+    let Some(duration) = entry else {
+        return Ok(());
+    };
+    into.extend_from_slice(b"= ")?;
+    into.extend_from_slice(name)?;
+    into.extend_from_slice(b" ")?;
+    push_duration_text(into, duration)?;
+    into.extend_from_slice(b"\n")?;
     Ok(())
 }
 

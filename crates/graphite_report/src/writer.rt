@@ -2,7 +2,7 @@
 ghost use Rattle.std.specs.Prelude.{◌≡◌, ◌++◌, ◌+◌, ◌<◌, ◌≤◌, [], length, OnOk, OnErr};
 ghost use Rattle.std.specs.Io.KnownBytes.{Appends};
 ghost use Rattle.graphite_base.specs.Causes.{Rose};
-ghost use Rattle.graphite_report.specs.Given.{AreOfVertices, heading_of, values_in};
+ghost use Rattle.graphite_report.specs.Given.{AreOfVertices, durations_in, heading_of, values_in};
 ghost use Rattle.graphite_report.specs.Lines.{lines_from, report_in};
 ghost use Rattle.graphite_report.specs.Report.{instant_report, intervals_report, sums_report};
 ghost use Rattle.graphite_report.specs.Through.{Through};
@@ -10,9 +10,10 @@ ghost use Rattle.graphite_report.specs.Written.{AppendsPrefix};
 
 use crate::buffer::{PIECE, send, send_full};
 use crate::form::Form;
-use crate::lines::{push_first_line, push_instant, push_runs, push_totals};
+use crate::lines::{push_duration, push_first_line, push_instant, push_runs, push_totals};
 use crate::sums::totals_of;
 use crate::{Head, ReportFault};
+use graphite_api::Duration;
 use graphite_base::Sink;
 use graphite_graph::Graph;
 use graphite_part::Partition;
@@ -20,7 +21,9 @@ use graphite_time::NoMemory;
 use std::alloc::Global;
 
 /// Writes the intervals report: for each vertex a line for each maximal interval on which its value is
-/// the same. `values` are those of the vertices in order; a vertex has none where it is not alive. After
+/// the same, and then, where it has an entry in `durations`, a line with its duration (how long, from when
+/// and until when, in instants) or `none`. `values` and `durations` are those of the vertices in order; a
+/// vertex has no value where it is not alive, and `durations` may be shorter, as where it is empty. After
 /// a fault a prefix of the report was written.
 #[tactic(auto, unfolding(crate::specs::Lines::report_in, crate::specs::Report::intervals_report))]
 pub fn write_intervals<K: Sink>(
@@ -29,16 +32,17 @@ pub fn write_intervals<K: Sink>(
     graph: &Graph<'_>,
     head: &Head<'_>,
     values: &[Partition<Option<u64>>],
+    durations: &[Option<Duration>],
 ) -> Result<(), ReportFault>
     requires { AreOfVertices graph.now values.now }
     ensures ok { OnOk result (Appends (K.written sink.old) (K.written sink.new)
-        (intervals_report (heading_of head.now) graph.now (values_in values.now))) }
+        (intervals_report (heading_of head.now) graph.now (values_in values.now) (durations_in durations.now))) }
     ensures err { OnErr result (AppendsPrefix (K.written sink.old) (K.written sink.new)
-        (intervals_report (heading_of head.now) graph.now (values_in values.now))) }
+        (intervals_report (heading_of head.now) graph.now (values_in values.now) (durations_in durations.now))) }
     ensures failed { result ≡ Err ReportFault.WriteFailed → Rose (K.faults sink.old) (K.faults sink.new) }
     ensures later { K.faults sink.old ≤ K.faults sink.new }
 {
-    write_report(alloc, sink, graph, head, values, Form::Intervals)
+    write_report(alloc, sink, graph, head, values, Form::Intervals(durations))
 }
 
 /// Writes the report of an instant: for each vertex that is alive at it a line with its value. `values`
@@ -94,13 +98,13 @@ fn write_report<K: Sink>(
     graph: &Graph<'_>,
     head: &Head<'_>,
     values: &[Partition<Option<u64>>],
-    form: Form,
+    form: Form<'_>,
 ) -> Result<(), ReportFault>
     requires { AreOfVertices graph.now values.now }
     ensures ok { OnOk result (Appends (K.written sink.old) (K.written sink.new)
-        (report_in form (heading_of head.now) graph.now (values_in values.now))) }
+        (report_in form.entry (heading_of head.now) graph.now (values_in values.now))) }
     ensures err { OnErr result (AppendsPrefix (K.written sink.old) (K.written sink.new)
-        (report_in form (heading_of head.now) graph.now (values_in values.now))) }
+        (report_in form.entry (heading_of head.now) graph.now (values_in values.now))) }
     ensures failed { result ≡ Err ReportFault.WriteFailed → Rose (K.faults sink.old) (K.faults sink.new) }
     ensures later { K.faults sink.old ≤ K.faults sink.new }
 {
@@ -116,15 +120,15 @@ fn write_report<K: Sink>(
 fn write_vertices<K: Sink>(
     graph: &Graph<'_>,
     values: &[Partition<Option<u64>>],
-    form: Form,
+    form: Form<'_>,
     buffer: &mut Vec<u8>,
     sink: &mut K,
 ) -> Result<(), ReportFault>
     requires { AreOfVertices graph.now values.now }
     ensures ok { OnOk result (Through (K.written sink.old) (K.written sink.new) buffer.new.items []
-        (buffer.old.items ++ lines_from form graph.now (values_in values.now) 0)) }
+        (buffer.old.items ++ lines_from form.entry graph.now (values_in values.now) 0)) }
     ensures err { OnErr result (AppendsPrefix (K.written sink.old) (K.written sink.new)
-        (buffer.old.items ++ lines_from form graph.now (values_in values.now) 0)) }
+        (buffer.old.items ++ lines_from form.entry graph.now (values_in values.now) 0)) }
     ensures failed { result ≡ Err ReportFault.WriteFailed → Rose (K.faults sink.old) (K.faults sink.new) }
     ensures later { K.faults sink.old ≤ K.faults sink.new }
 {
@@ -135,25 +139,35 @@ fn write_vertices<K: Sink>(
     Ok(())
 }
 
+/// What is said of the duration of a vertex: its entry, if there is one.
+fn duration_of(durations: &[Option<Duration>], v: u32) -> Option<Option<Duration>>
+    ensures { result ≡ durations_in durations.now v }
+{
+    durations.get(v as usize).copied()
+}
+
 /// Appends the lines of a vertex.
 fn push_vertex(
     graph: &Graph<'_>,
     v: u32,
     values: &[Partition<Option<u64>>],
-    form: Form,
+    form: Form<'_>,
     into: &mut Vec<u8>,
 ) -> Result<(), NoMemory>
     requires vertex { v < length graph.now.vertices }
     requires all { AreOfVertices graph.now values.now }
-    ensures { OnOk result (into.new.items ++ lines_from form graph.now (values_in values.now) (v + 1)
-        ≡ into.old.items ++ lines_from form graph.now (values_in values.now) v) }
+    ensures { OnOk result (into.new.items ++ lines_from form.entry graph.now (values_in values.now) (v + 1)
+        ≡ into.old.items ++ lines_from form.entry graph.now (values_in values.now) v) }
 {
     // nothing lives from the horizon on, so no value is printed from there on
     let _horizon = graph.horizon();
     let name = graph.vertex_name(v);
     let of_vertex = &values[v as usize];
     match form {
-        Form::Intervals => push_runs(into, name, of_vertex.pieces())?,
+        Form::Intervals(durations) => {
+            push_runs(into, name, of_vertex.pieces())?;
+            push_duration(into, name, duration_of(durations, v))?;
+        }
         Form::Instant(t) => push_instant(into, name, of_vertex, t)?,
         Form::Sums => push_totals(into, name, totals_of(of_vertex.pieces()))?,
     }

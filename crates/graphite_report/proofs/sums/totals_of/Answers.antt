@@ -1,4 +1,4 @@
-use Rattle.std.proofs.Common.{◌≡◌, ◌≤◌, ◌+◌, arith}
+use Rattle.std.proofs.Common.{arith}
 use Rattle.graphite_part.proofs.CopyLemmas.{next_piece}
 use Rattle.graphite_report.specs.Sums.{alive_weight, valued_weight, number_weight}
 use Rattle.graphite_report.proofs.SumLemmas.{total_more}
