@@ -15,7 +15,10 @@ abbrev pub plain_row : Row → PlainRow
 plain_row row = record {
   word = row.word.now;
   wants_source = row.wants_source;
+  wants_target = row.wants_target;
   wants_key = row.wants_key;
+  takes_window = row.takes_window;
+  wants_until = row.wants_until;
   takes_steps = row.takes_steps;
   takes_report = row.takes_report;
   usual_steps = number_given row.usual_steps;
@@ -26,7 +29,10 @@ abbrev pub plain_given : Given → PlainGiven
 plain_given given = record {
   program = option_map (λ text. text.now) given.program;
   source = option_map (λ text. text.now) given.source;
+  target = option_map (λ text. text.now) given.target;
   key = option_map (λ text. text.now) given.key;
+  from = option_map (λ text. text.now) given.from;
+  until = option_map (λ text. text.now) given.until;
   steps = option_map (λ text. text.now) given.steps;
   report = option_map (λ text. text.now) given.report;
   at = option_map (λ text. text.now) given.at;
@@ -38,6 +44,8 @@ plain_query query = record {
   command = query.command;
   vertex = query.vertex;
   key = query.key;
+  from = query.from;
+  until = query.until;
   steps = number_given query.steps;
   report = query.report;
 }

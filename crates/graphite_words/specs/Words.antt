@@ -1,7 +1,8 @@
 -- What the words ask for. How a list of words is read is the published definition of `clap` for a simple command; what
 -- the program asks of a list that is read stands here.
-use Rattle.std.specs.Prelude.{ℕ, Bool, ◌||◌, ◌&&◌, ◌==◌, is_none, is_some, List, [], ◌∷◌, codes, Option, Some, None, option_map, option_and_then, if◌then◌else◌}
+use Rattle.std.specs.Prelude.{ℕ, Bool, true, ◌||◌, ◌&&◌, ◌==◌, is_none, is_some, List, [], ◌∷◌, codes, Option, Some, None, option_map, option_and_then, unwrap_or, if◌then◌else◌}
 use Rattle.std.specs.List.{list_any}
+use Rattle.std.specs.Option.{option_or}
 use Rattle.std.specs.Str.{bytes_eq}
 use Rattle.clap.specs.Words.{App, Kinds, Rule, Text, fault_of, first_of, matches_of, new_app, new_rule, with_rule}
 use Rattle.clap.specs.Words.{Row as Match}
@@ -23,10 +24,13 @@ option_rule name = record (new_rule name) { long = Some name; action = Some Set 
 -- the command that `clap` reads: the word of a program, and options
 unfoldable pub graphite_command : App
 graphite_command =
-    with_rule (with_rule (with_rule (with_rule (with_rule (with_rule (new_app (codes "graphite"))
+    with_rule (with_rule (with_rule (with_rule (with_rule (with_rule (with_rule (with_rule (with_rule (new_app (codes "graphite"))
     (new_rule (codes "program")))
     (option_rule (codes "source")))
+    (option_rule (codes "target")))
     (option_rule (codes "key")))
+    (option_rule (codes "from")))
+    (option_rule (codes "until")))
     (option_rule (codes "steps")))
     (option_rule (codes "report")))
     (option_rule (codes "at"))
@@ -48,7 +52,10 @@ matches_in line = unless_faults (fault_of graphite_command line) (matches_of gra
 pub record PlainGiven : Type 0 where
   pub program : Option Text
   pub source : Option Text
+  pub target : Option Text
   pub key : Option Text
+  pub from : Option Text
+  pub until : Option Text
   pub steps : Option Text
   pub report : Option Text
   pub at : Option Text
@@ -58,7 +65,10 @@ abbrev pub given_in : List Match → PlainGiven
 given_in found = record {
   program = first_of (codes "program") found;
   source = first_of (codes "source") found;
+  target = first_of (codes "target") found;
   key = first_of (codes "key") found;
+  from = first_of (codes "from") found;
+  until = first_of (codes "until") found;
   steps = first_of (codes "steps") found;
   report = first_of (codes "report") found;
   at = first_of (codes "at") found;
@@ -66,12 +76,15 @@ given_in found = record {
 
 -- ---- what is asked for
 
--- A program, with the options that it takes: the name of the vertex to start from, the key of the property to read, and
--- the number of supersteps allowed.
+-- A program, with the options that it takes: the name of the vertex to start from or to lead to, the key of the property
+-- to read, the window of instants from the first one to before its end, which is the horizon where none is given, the
+-- number of supersteps allowed, and what to report.
 pub record PlainQuery : Type 0 where
   pub command : Command
   pub vertex : Option Text
   pub key : Option Text
+  pub from : ℕ
+  pub until : Option ℕ
   pub steps : Option ℕ
   pub report : Report
 
@@ -79,14 +92,36 @@ pub record PlainQuery : Type 0 where
 abbrev pub is_as_wanted : Bool → Option Text → Bool
 is_as_wanted wanted value = if wanted then is_some value else is_none value
 
+-- an option is given where it is wanted, and maybe elsewhere
+abbrev pub is_there : Bool → Option Text → Bool
+is_there wanted value = if wanted then is_some value else true
+
 -- an option is given only where it is taken
 abbrev pub is_taken : Bool → Option Text → Bool
 is_taken taken value = is_none value || taken
 
--- each option that is given is in the row, and each that is wanted is given
-abbrev pub takes : PlainRow → PlainGiven → Bool
-takes row given = is_as_wanted row.wants_source given.source && is_as_wanted row.wants_key given.key
+-- a source, a target and a key are given exactly where they are wanted, and an end of the window wherever one is wanted
+abbrev pub has_wanted : PlainRow → PlainGiven → Bool
+has_wanted row given = is_as_wanted row.wants_source given.source && is_as_wanted row.wants_target given.target
+    && is_as_wanted row.wants_key given.key && is_there row.wants_until given.until
+
+-- the other options are given only where they are taken
+abbrev pub has_only_taken : PlainRow → PlainGiven → Bool
+has_only_taken row given = is_taken row.takes_window given.from && is_taken row.takes_window given.until
     && is_taken row.takes_steps given.steps && is_taken row.takes_report given.report && is_taken row.takes_report given.at
+
+-- each option that is wanted is given, and none that is not taken
+abbrev pub takes : PlainRow → PlainGiven → Bool
+takes row given = has_wanted row given && has_only_taken row given
+
+-- the instant that a value says: a canonical decimal up to the last instant
+abbrev pub instant_in : Text → Option ℕ
+instant_in value = number_in LAST value
+
+-- an instant, where it is given
+abbrev pub instant_of : Option Text → Option (Option ℕ)
+instant_of None = Some None
+instant_of (Some value) = option_map Some (instant_in value)
 
 -- the number of supersteps that a value says: a canonical decimal from 1 to the limit of supersteps
 abbrev pub steps_in : Text → Option ℕ
@@ -102,27 +137,32 @@ abbrev pub kind_in : Text → Option Report
 kind_in value = if bytes_eq value (codes "intervals") then Some Intervals
     else (if bytes_eq value (codes "sums") then Some Sums else None)
 
--- the report of the instant that a value says
-abbrev pub instant_in : Text → Option Report
-instant_in value = option_map At (number_in LAST value)
-
 -- the report, by its kind or its instant, which are not both given
 abbrev pub report_of : (kind instant : Option Text) → Option Report
 report_of None None = Some Intervals
 report_of (Some value) None = kind_in value
-report_of None (Some value) = instant_in value
+report_of None (Some value) = option_map At (instant_in value)
 report_of (Some value) (Some other) = None
+
+-- what is made of a value, where it has the form that it is to have
+abbrev pub read_then : {X : Type 0} → Option X → (X → Option PlainQuery) → Option PlainQuery
+read_then value make = option_and_then make value
 
 -- a program with what is given, where its row takes that
 abbrev pub query_with : Command → PlainGiven → Option PlainQuery
 query_with command given = if takes (row_of command) given
-    then option_and_then (λ steps. option_map (λ report. record {
+    then read_then (instant_of given.from) (λ from.
+    read_then (instant_of given.until) (λ until.
+    read_then (steps_of given.steps) (λ steps.
+    read_then (report_of given.report given.at) (λ report. Some (record {
       command = command;
-      vertex = given.source;
+      vertex = option_or given.source given.target;
       key = given.key;
+      from = unwrap_or from 0;
+      until = until;
       steps = steps;
       report = report;
-    }) (report_of given.report given.at)) (steps_of given.steps)
+    })))))
     else None
 
 -- what is asked for by what is given

@@ -1,8 +1,9 @@
 //! What the words give, as text.
-ghost use Rattle.std.specs.Prelude.{◌≡◌};
+ghost use Rattle.std.specs.Prelude.{◌≡◌, option_map};
+ghost use Rattle.std.specs.Option.{option_or};
 ghost use Rattle.clap.specs.Words.{found_of, rows_of};
 ghost use Rattle.graphite_words.specs.Query.{plain_given, plain_row};
-ghost use Rattle.graphite_words.specs.Words.{given_in, takes};
+ghost use Rattle.graphite_words.specs.Words.{given_in, has_only_taken, has_wanted, is_taken, takes};
 
 use crate::table::Row;
 use clap::ArgMatches;
@@ -12,7 +13,10 @@ use clap::ArgMatches;
 pub struct Given<'w> {
     pub program: Option<&'w str>,
     pub source: Option<&'w str>,
+    pub target: Option<&'w str>,
     pub key: Option<&'w str>,
+    pub from: Option<&'w str>,
+    pub until: Option<&'w str>,
     pub steps: Option<&'w str>,
     pub report: Option<&'w str>,
     pub at: Option<&'w str>,
@@ -26,24 +30,56 @@ impl<'w> Given<'w> {
         Given {
             program: matches.get_str("program"),
             source: matches.get_str("source"),
+            target: matches.get_str("target"),
             key: matches.get_str("key"),
+            from: matches.get_str("from"),
+            until: matches.get_str("until"),
             steps: matches.get_str("steps"),
             report: matches.get_str("report"),
             at: matches.get_str("at"),
         }
     }
 
-    /// Whether a source and a key are given exactly where a program of this row wants one, and each other
-    /// option only where it takes it.
+    /// The name of the vertex, which is the source or the target.
+    pub fn vertex(self) -> Option<&'w str>
+        ensures { option_map (λ name. name.now) result ≡ option_or (plain_given self.entry).source (plain_given self.entry).target }
+    {
+        self.source.or(self.target)
+    }
+
+    /// Whether each option that a program of this row wants is given, and none that it does not take.
     pub fn fits(self, row: Row) -> bool
         ensures { result ≡ takes (plain_row row) (plain_given self.entry) }
     {
-        let has_source = self.source.is_some() == row.wants_source;
-        let has_key = self.key.is_some() == row.wants_key;
-        has_source
-            && has_key
-            && (self.steps.is_none() || row.takes_steps)
-            && (self.report.is_none() || row.takes_report)
-            && (self.at.is_none() || row.takes_report)
+        self.has_wanted(row) && self.has_only_taken(row)
     }
+
+    /// Whether a source, a target and a key are given exactly where they are wanted, and an end of the
+    /// window wherever one is wanted.
+    fn has_wanted(self, row: Row) -> bool
+        ensures { result ≡ has_wanted (plain_row row) (plain_given self.entry) }
+    {
+        self.source.is_some() == row.wants_source
+            && self.target.is_some() == row.wants_target
+            && self.key.is_some() == row.wants_key
+            && (self.until.is_some() || !row.wants_until)
+    }
+
+    /// Whether the other options are given only where they are taken.
+    fn has_only_taken(self, row: Row) -> bool
+        ensures { result ≡ has_only_taken (plain_row row) (plain_given self.entry) }
+    {
+        is_taken(row.takes_window, self.from)
+            && is_taken(row.takes_window, self.until)
+            && is_taken(row.takes_steps, self.steps)
+            && is_taken(row.takes_report, self.report)
+            && is_taken(row.takes_report, self.at)
+    }
+}
+
+/// Whether an option is given only where it is taken.
+fn is_taken(taken: bool, value: Option<&str>) -> bool
+    ensures { result ≡ is_taken taken (option_map (λ v. v.now) value.entry) }
+{
+    value.is_none() || taken
 }

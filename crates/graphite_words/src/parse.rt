@@ -53,7 +53,10 @@ fn graphite_command<'w>(alloc: Global) -> Result<clap::Command<'w>, AllocError>
     clap::Command::new(alloc, "graphite")
         .arg(program)?
         .arg(option(alloc, "source"))?
+        .arg(option(alloc, "target"))?
         .arg(option(alloc, "key"))?
+        .arg(option(alloc, "from"))?
+        .arg(option(alloc, "until"))?
         .arg(option(alloc, "steps"))?
         .arg(option(alloc, "report"))?
         .arg(option(alloc, "at"))

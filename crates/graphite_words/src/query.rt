@@ -1,8 +1,8 @@
 //! What the words ask for: a program of the table, and the options that it takes.
-ghost use Rattle.std.specs.Prelude.{◌≡◌, ◌≤◌, ℕ, None, Some, map, option_map, string_bytes, IfOk, IsErrOf, IsSome, IsTrue};
+ghost use Rattle.std.specs.Prelude.{◌≡◌, ◌≤◌, ℕ, None, Some, map, option_map, string_bytes, IfOk, IfSome, IsErrOf, IsSome, IsTrue};
 ghost use Rattle.graphite_time.specs.declared.TheConstants.{LAST};
 ghost use Rattle.graphite_words.specs.Query.{plain_given, plain_query};
-ghost use Rattle.graphite_words.specs.Table.{row_of};
+ghost use Rattle.graphite_words.specs.Table.{row_of, wants_vertex};
 ghost use Rattle.graphite_words.specs.Words.{query_by, query_of, query_with};
 
 use crate::fault::WordsFault;
@@ -10,7 +10,7 @@ use crate::given::Given;
 use crate::parse::{has_dashes, line_of, matches_in};
 use crate::steps::Steps;
 use crate::table::{Command, command_of, row_of};
-use crate::values::{report_of, steps_of};
+use crate::values::{instant_of, report_of, steps_of};
 use graphite_base::Bytes;
 use graphite_time::NoMemory;
 use std::alloc::Global;
@@ -30,10 +30,14 @@ pub enum Report {
 #[derive(Drop, PartialEq, Eq)]
 pub struct Query {
     pub command: Command,
-    /// The name of the vertex to start from.
+    /// The name of the vertex to start from, or to lead to.
     pub vertex: Option<Bytes>,
     /// The key of the property to read.
     pub key: Option<Bytes>,
+    /// The first instant of the window, up to [`graphite_time::LAST`]: 0 where it is not given.
+    pub from: u64,
+    /// The instant that the window ends before, up to [`graphite_time::LAST`]. `None` stands for the horizon.
+    pub until: Option<u64>,
     /// The number of supersteps allowed.
     pub steps: Option<Steps>,
     pub report: Report,
@@ -47,9 +51,12 @@ pub fn query_of(alloc: Global, words: &[String]) -> Result<Query, WordsFault>
     ensures asked { IfOk result (λ query. query_of (map string_bytes words.now) ≡ Some (plain_query query)) }
     ensures refused { IsErrOf result WordsFault.Refused → query_of (map string_bytes words.now) ≡ None }
 
-    // What is wanted is there, and an instant is in time.
-    ensures vertex { IfOk result (λ query. IsTrue (row_of query.command).wants_source → IsSome query.vertex) }
+    // What is wanted is there, and instants are in time.
+    ensures vertex { IfOk result (λ query. IsTrue (wants_vertex (row_of query.command)) → IsSome query.vertex) }
     ensures key { IfOk result (λ query. IsTrue (row_of query.command).wants_key → IsSome query.key) }
+    ensures wanted_until { IfOk result (λ query. IsTrue (row_of query.command).wants_until → IsSome query.until) }
+    ensures from { IfOk result (λ query. query.from ≤ LAST) }
+    ensures until { IfOk result (λ query. IfSome query.until (λ t. t ≤ LAST)) }
     ensures instant { (t : ℕ) → IfOk result (λ query. query.report ≡ Report.At t → t ≤ LAST) }
 {
     if has_dashes(words) {
@@ -78,12 +85,16 @@ fn query_with(alloc: Global, command: Command, given: Given<'_>) -> Result<Query
     if !given.fits(row_of(command)) {
         return Err(WordsFault::Refused);
     }
+    let from = instant_of(given.from)?.unwrap_or(0);
+    let until = instant_of(given.until)?;
     let steps = steps_of(given.steps)?;
     let report = report_of(given.report, given.at).ok_or(WordsFault::Refused)?;
     Ok(Query {
         command,
-        vertex: bytes_of(alloc, given.source)?,
+        vertex: bytes_of(alloc, given.vertex())?,
         key: bytes_of(alloc, given.key)?,
+        from,
+        until,
         steps,
         report,
     })

@@ -1,7 +1,7 @@
 //! The table of programs.
 ghost use Rattle.std.specs.Prelude.{◌≡◌};
 ghost use Rattle.graphite_words.specs.Query.{plain_row};
-ghost use Rattle.graphite_words.specs.Table.{command_of, row_of};
+ghost use Rattle.graphite_words.specs.Table.{command_of, row_named, row_of, row_with_steps, row_with_window};
 
 use crate::steps::Steps;
 
@@ -21,6 +21,16 @@ pub enum Command {
     Distance,
     /// The rank of each vertex, by the ranks of those from which edges lead to it.
     Rank,
+    /// Whether a journey from a vertex has arrived at each vertex.
+    Reach,
+    /// The earliest arrival at each vertex of a journey from a vertex.
+    Earliest,
+    /// The least cost of a journey from a vertex to each vertex.
+    Cheapest,
+    /// The least duration of a journey from a vertex to each vertex.
+    Fastest,
+    /// The latest departure from each vertex of a journey to a vertex.
+    Latest,
     /// The canonical text of the graph.
     Show,
 }
@@ -32,8 +42,14 @@ pub struct Row {
     pub word: &'static [u8],
     /// Whether it starts from a vertex, whose name has to be given. No other program may be given one.
     pub wants_source: bool,
+    /// Whether it leads to a vertex, whose name has to be given. No other program may be given one.
+    pub wants_target: bool,
     /// Whether it reads a property, whose key has to be given. No other program may be given one.
     pub wants_key: bool,
+    /// Whether it may be given a window of instants: the first one, and the end.
+    pub takes_window: bool,
+    /// Whether it has to be given the end of the window.
+    pub wants_until: bool,
     /// Whether it may be given the number of supersteps allowed.
     pub takes_steps: bool,
     /// Whether it may be told what to report: a kind of report, or an instant.
@@ -49,61 +65,86 @@ pub fn row_of(command: Command) -> Row
 {
     match command {
         Command::Degree => Row {
-            word: b"degree",
-            wants_source: false,
-            wants_key: false,
-            takes_steps: false,
             takes_report: true,
-            usual_steps: None,
+            ..row_named(b"degree")
         },
         Command::Bfs => Row {
-            word: b"bfs",
             wants_source: true,
-            wants_key: false,
-            takes_steps: true,
-            takes_report: true,
-            usual_steps: None,
+            ..row_with_steps(b"bfs")
         },
-        Command::Components => Row {
-            word: b"components",
-            wants_source: false,
-            wants_key: false,
-            takes_steps: true,
-            takes_report: true,
-            usual_steps: None,
-        },
+        Command::Components => row_with_steps(b"components"),
         Command::Max => Row {
-            word: b"max",
-            wants_source: false,
             wants_key: true,
-            takes_steps: true,
-            takes_report: true,
-            usual_steps: None,
+            ..row_with_steps(b"max")
         },
         Command::Distance => Row {
-            word: b"distance",
             wants_source: true,
-            wants_key: false,
-            takes_steps: true,
-            takes_report: true,
-            usual_steps: None,
+            ..row_with_steps(b"distance")
         },
         Command::Rank => Row {
-            word: b"rank",
-            wants_source: false,
-            wants_key: false,
-            takes_steps: true,
-            takes_report: true,
             usual_steps: Some(Steps::new(30)),
+            ..row_with_steps(b"rank")
         },
-        Command::Show => Row {
-            word: b"show",
-            wants_source: false,
-            wants_key: false,
-            takes_steps: false,
-            takes_report: false,
-            usual_steps: None,
+        Command::Reach => Row {
+            wants_source: true,
+            ..row_with_window(b"reach")
         },
+        Command::Earliest => Row {
+            wants_source: true,
+            ..row_with_window(b"earliest")
+        },
+        Command::Cheapest => Row {
+            wants_source: true,
+            ..row_with_window(b"cheapest")
+        },
+        Command::Fastest => Row {
+            wants_source: true,
+            wants_until: true,
+            ..row_with_window(b"fastest")
+        },
+        Command::Latest => Row {
+            wants_target: true,
+            ..row_with_window(b"latest")
+        },
+        Command::Show => row_named(b"show"),
+    }
+}
+
+/// The row of a program with this word that takes no option.
+fn row_named(word: &'static [u8]) -> Row
+    ensures { plain_row result ≡ row_named word.now }
+{
+    Row {
+        word,
+        wants_source: false,
+        wants_target: false,
+        wants_key: false,
+        takes_window: false,
+        wants_until: false,
+        takes_steps: false,
+        takes_report: false,
+        usual_steps: None,
+    }
+}
+
+/// The row of a program with this word that may be given a number of supersteps, and told what to report.
+fn row_with_steps(word: &'static [u8]) -> Row
+    ensures { plain_row result ≡ row_with_steps word.now }
+{
+    Row {
+        takes_steps: true,
+        takes_report: true,
+        ..row_named(word)
+    }
+}
+
+/// The row of a program with this word that may be given a window besides.
+fn row_with_window(word: &'static [u8]) -> Row
+    ensures { plain_row result ≡ row_with_window word.now }
+{
+    Row {
+        takes_window: true,
+        ..row_with_steps(word)
     }
 }
 
@@ -128,6 +169,21 @@ pub fn command_of(word: &[u8]) -> Option<Command>
     }
     if row_of(Command::Rank).word == word {
         return Some(Command::Rank);
+    }
+    if row_of(Command::Reach).word == word {
+        return Some(Command::Reach);
+    }
+    if row_of(Command::Earliest).word == word {
+        return Some(Command::Earliest);
+    }
+    if row_of(Command::Cheapest).word == word {
+        return Some(Command::Cheapest);
+    }
+    if row_of(Command::Fastest).word == word {
+        return Some(Command::Fastest);
+    }
+    if row_of(Command::Latest).word == word {
+        return Some(Command::Latest);
     }
     if row_of(Command::Show).word == word {
         return Some(Command::Show);

@@ -20,17 +20,26 @@ fn query(command: Command) -> Query {
         command,
         vertex: None,
         key: None,
+        from: 0,
+        until: None,
         steps: None,
         report: Report::Intervals,
     }
 }
 
+/// A program that starts from or leads to a vertex of this name, with all its intervals reported.
+fn vertex_query(alloc: Global, command: Command, name: &[u8]) -> Result<Query, NoMemory> {
+    Ok(Query {
+        vertex: Some(Bytes::from_slice(alloc, name)?),
+        ..query(command)
+    })
+}
+
 /// Breadth-first search from a vertex of this name.
 fn bfs(alloc: Global, name: &[u8], steps: Option<Steps>) -> Result<Query, NoMemory> {
     Ok(Query {
-        vertex: Some(Bytes::from_slice(alloc, name)?),
         steps,
-        ..query(Command::Bfs)
+        ..vertex_query(alloc, Command::Bfs, name)?
     })
 }
 
@@ -89,19 +98,78 @@ fn words_that_are_accepted(rt: HostRuntime) -> Result<(), Fail> {
 }
 
 #[test]
+fn words_of_journeys_that_are_accepted(rt: HostRuntime) -> Result<(), Fail> {
+    let alloc = rt.alloc();
+    let window = Query {
+        from: 4,
+        until: Some(5),
+        ..vertex_query(alloc, Command::Reach, b"a")?
+    };
+    let cheapest = Query {
+        steps: Some(Steps::new(2)),
+        ..vertex_query(alloc, Command::Cheapest, b"a")?
+    };
+    let at = Query {
+        report: Report::At(3),
+        ..vertex_query(alloc, Command::Earliest, b"a")?
+    };
+    let fastest = Query {
+        until: Some(5),
+        ..vertex_query(alloc, Command::Fastest, b"a")?
+    };
+    let latest = Query {
+        from: 1,
+        until: Some(9),
+        ..vertex_query(alloc, Command::Latest, b"c")?
+    };
+    let cases: [(&[&str], Query); 7] = [
+        (
+            &["earliest", "--source", "a"],
+            vertex_query(alloc, Command::Earliest, b"a")?,
+        ),
+        (
+            &["reach", "--source", "a", "--from", "4", "--until", "5"],
+            window,
+        ),
+        (&["cheapest", "--source", "a", "--steps", "2"], cheapest),
+        (&["earliest", "--source=a", "--at=3"], at),
+        (&["fastest", "--source", "a", "--until", "5"], fastest),
+        (
+            &["latest", "--target", "c"],
+            vertex_query(alloc, Command::Latest, b"c")?,
+        ),
+        (
+            &["latest", "--target=c", "--from", "1", "--until", "9"],
+            latest,
+        ),
+    ];
+    for (words, query) in cases {
+        expect_query(&rt, alloc, words, Ok(query))?;
+    }
+    Ok(())
+}
+
+#[test]
 fn words_that_are_refused(rt: HostRuntime) -> Result<(), Fail> {
-    let cases: [&[&str]; 24] = [
+    let cases: [&[&str]; 34] = [
         // no program of the table, or more words than its own
         &[],
         &["frob"],
         &["degree", "extra"],
         &["--help"],
         &["degree", "-h"],
-        &["earliest", "--source", "a"],
         // an option that is not taken, or is missing
         &["degree", "--steps", "3"],
         &["show", "--at", "3"],
         &["bfs"],
+        &["earliest"],
+        &["earliest", "--target", "a"],
+        &["fastest", "--source", "a"],
+        &["latest"],
+        &["latest", "--source", "c"],
+        &["bfs", "--source", "a", "--from", "1"],
+        &["degree", "--until", "3"],
+        &["earliest", "--source", "a", "--path", "c"],
         &["max", "--source", "a"],
         &["degree", "--colour", "red"],
         // no such number
@@ -109,6 +177,8 @@ fn words_that_are_refused(rt: HostRuntime) -> Result<(), Fail> {
         &["bfs", "--source", "a", "--steps", "01"],
         &["rank", "--steps", "2097153"],
         &["degree", "--at", "17592186044417"],
+        &["earliest", "--source", "a", "--from", "01"],
+        &["earliest", "--source", "a", "--until", "17592186044417"],
         // no value, or two
         &["bfs", "--source", "a", "--source", "b"],
         &["bfs", "--source"],
@@ -120,6 +190,7 @@ fn words_that_are_refused(rt: HostRuntime) -> Result<(), Fail> {
         &["--", "degree"],
         // what to report
         &["degree", "--report", "paths"],
+        &["reach", "--source", "a", "--report", "paths"],
         &["degree", "--report", "sums", "--at", "1"],
     ];
     for words in cases {

@@ -1,7 +1,7 @@
 //! What the values of options say.
 ghost use Rattle.std.specs.Prelude.{◌≡◌, None, Some, option_map, IfOk, IsErrOf};
 ghost use Rattle.graphite_words.specs.Query.{number_given};
-ghost use Rattle.graphite_words.specs.Words.{instant_in, kind_in, report_of, steps_in, steps_of};
+ghost use Rattle.graphite_words.specs.Words.{instant_in, instant_of, kind_in, report_of, steps_in, steps_of};
 
 use crate::fault::WordsFault;
 use crate::query::Report;
@@ -9,6 +9,24 @@ use crate::steps::Steps;
 use graphite_api::STEP_LIMIT;
 use graphite_base::number_of;
 use graphite_time::LAST;
+
+/// An instant, where it is given. Refused where its value is no instant.
+pub fn instant_of(value: Option<&str>) -> Result<Option<u64>, WordsFault>
+    ensures asked { IfOk result (λ instant. instant_of (option_map (λ v. v.now) value.entry) ≡ Some instant) }
+    ensures refused { IsErrOf result WordsFault.Refused → instant_of (option_map (λ v. v.now) value.entry) ≡ None }
+{
+    match value {
+        Some(value) => Ok(Some(instant_in(value).ok_or(WordsFault::Refused)?)),
+        None => Ok(None),
+    }
+}
+
+/// The instant that a value says.
+fn instant_in(value: &str) -> Option<u64>
+    ensures { result ≡ instant_in value.now }
+{
+    number_of(value.as_bytes(), LAST)
+}
 
 /// The number of supersteps allowed, where it is given. Refused where its value is no such number.
 pub fn steps_of(value: Option<&str>) -> Result<Option<Steps>, WordsFault>
@@ -39,7 +57,7 @@ pub fn report_of(kind: Option<&str>, instant: Option<&str>) -> Option<Report>
     match (kind, instant) {
         (None, None) => Some(Report::Intervals),
         (Some(value), None) => kind_in(value),
-        (None, Some(value)) => instant_in(value),
+        (None, Some(value)) => Some(Report::At(instant_in(value)?)),
         (Some(_), Some(_)) => None,
     }
 }
@@ -53,12 +71,4 @@ fn kind_in(value: &str) -> Option<Report>
         "sums" => Some(Report::Sums),
         _ => None,
     }
-}
-
-/// The report of the instant that a value says.
-fn instant_in(value: &str) -> Option<Report>
-    ensures { result ≡ instant_in value.now }
-{
-    let instant = number_of(value.as_bytes(), LAST)?;
-    Some(Report::At(instant))
 }

@@ -1,13 +1,33 @@
+use Rattle.std.proofs.Common.{◌≡◌, ◌∙◌, ◌∷◌, Some, ap, codes, false, map, string_bytes}
 use Rattle.std.proofs.lemmas.Result.{IfOk-weaker}
+use Rattle.std.specs.List.{list_any}
 use Rattle.graphite_words.specs.Query.{plain_query, plain_given}
-use Rattle.graphite_words.proofs.QueryLemmas.{whole_by}
+use Rattle.graphite_words.specs.Words.{is_dashes}
+use Rattle.graphite_words.proofs.QueryLemmas.{query_of-found, whole_by}
 use Rattle.graphite_words.proofs.query.query_of.Goals as goal
+
+pub returns-clause-asked : goal.returns-clause-asked
+returns-clause-asked c =
+    let no-dashes : list_any is_dashes (map string_bytes c.args.words.now) ≡ false = cc in
+    let line : map (λ word. word.now) c.deref.result.now ≡ codes "graphite" ∷ map string_bytes c.args.words.now = ap (map (λ word. word.now)) c.deref.ensures.value ∙ c.in_ok-line.ensures in
+    IfOk-weaker c.query_by.result _ _
+    (λ query asked. query_of-found _ _ _ (plain_given c.of_matches.result) (Some (plain_query query)) no-dashes line c.in_ok-matches.ensures.found c.of_matches.ensures asked)
+    c.query_by.ensures.asked
 
 pub returns-clause-vertex : goal.returns-clause-vertex
 returns-clause-vertex c = IfOk-weaker c.query_by.result _ _ (λ query asked. (whole_by (plain_given c.of_matches.result) (plain_query query) asked).vertex) c.query_by.ensures.asked
 
 pub returns-clause-key : goal.returns-clause-key
 returns-clause-key c = IfOk-weaker c.query_by.result _ _ (λ query asked. (whole_by (plain_given c.of_matches.result) (plain_query query) asked).key) c.query_by.ensures.asked
+
+pub returns-clause-wanted_until : goal.returns-clause-wanted_until
+returns-clause-wanted_until c = IfOk-weaker c.query_by.result _ _ (λ query asked. (whole_by (plain_given c.of_matches.result) (plain_query query) asked).wanted_until) c.query_by.ensures.asked
+
+pub returns-clause-from : goal.returns-clause-from
+returns-clause-from c = IfOk-weaker c.query_by.result _ _ (λ query asked. (whole_by (plain_given c.of_matches.result) (plain_query query) asked).from) c.query_by.ensures.asked
+
+pub returns-clause-until : goal.returns-clause-until
+returns-clause-until c = IfOk-weaker c.query_by.result _ _ (λ query asked. (whole_by (plain_given c.of_matches.result) (plain_query query) asked).until) c.query_by.ensures.asked
 
 pub returns-clause-instant : goal.returns-clause-instant
 returns-clause-instant c = λ t. IfOk-weaker c.query_by.result _ _ (λ query asked. (whole_by (plain_given c.of_matches.result) (plain_query query) asked).instant t) c.query_by.ensures.asked
