@@ -2,11 +2,11 @@
 use Rattle.std.proofs.Common.{◌≡◌, ◌≢◌, sym, ◌∙◌, ap, subst, ℕ, ◌-◌, ◌^◌, ◌<◌, ◌≤◌, Bool, List, [], ◌∷◌, All, length, Option, Some, arith}
 use Rattle.graphite_api.specs.declared.TheConstants.{STEP_LIMIT}
 use Rattle.graphite_api.specs.declared.arc.Arc.{Arc}
-use Rattle.graphite_api.specs.declared.kind.Kind.TheVariants.{Reach, Earliest, Cheapest, Latest}
+use Rattle.graphite_api.specs.declared.kind.Kind.TheVariants.{Reach, Earliest, Cheapest, Fastest, Latest}
 use Rattle.graphite_api.specs.declared.path_query.PathQuery.{PathQuery}
 use Rattle.graphite_api.specs.Hop.{Hop}
 use Rattle.graphite_api.specs.Journey.{journey_value, IsAsGood, IsValueWithin, IsBestWithin}
-use Rattle.graphite_api.specs.KindValues.{values_of, reach_values, earliest_values, saturating_values}
+use Rattle.graphite_api.specs.KindValues.{values_of, reach_values, earliest_values, fastest_values, saturating_values}
 use Rattle.graphite_api.specs.TableHops.{IsHopOn}
 use Rattle.graphite_api.specs.Values.{Values}
 use Rattle.graphite_api.proofs.BestLemmas.{IsBest-is}
@@ -30,6 +30,9 @@ module _ (alive : ℕ → ℕ → Bool) (IsHop : Hop → Type 0) (query : PathQu
 
   pub crossed_earliest : query.kind ≡ Earliest → AreCrossed earliest_values alive IsHop query start
   crossed_earliest is = subst (λ kind. AreCrossed (values_of kind) alive IsHop query start) is (crossed (λ late. cc (is, late)))
+
+  pub crossed_fastest : query.kind ≡ Fastest → AreCrossed fastest_values alive IsHop query start
+  crossed_fastest is = subst (λ kind. AreCrossed (values_of kind) alive IsHop query start) is (crossed (λ late. cc (is, late)))
 
   exact : query.kind ≡ Cheapest → AreCrossed (values_of Cheapest) alive IsHop query start
   exact is = subst (λ kind. AreCrossed (values_of kind) alive IsHop query start) is (crossed (λ late. cc (is, late)))

@@ -1,6 +1,9 @@
 pub mod CrossedLemmas
+pub mod DurationLemmas
+pub mod EnoughSteps
 pub mod GraphLemmas
-pub mod LeastLemmas
+pub mod LatestLemmas
+pub mod NextLemmas
 pub mod RunLemmas
 pub mod SameJourneys
 pub mod StartLemmas

@@ -1,5 +1,5 @@
 -- The pieces of the values of journeys without hops, lifespan by lifespan.
-use Rattle.std.proofs.Common.{◌≡◌, refl, sym, ◌∙◌, ap, subst, ℕ, zero, suc, ◌+◌, ◌<◌, ◌≤◌, nat_le, nat_lt, max, Bool, true, false, cond, ◌&&◌, if◌then◌else◌, List, [], ◌∷◌, ◌++◌, length, get_or, take, ⊎_elim, option_map, Option, None, Some, arith}
+use Rattle.std.proofs.Common.{◌≡◌, refl, sym, ◌∙◌, ap, subst, ℕ, zero, suc, ◌+◌, ◌-◌, ◌<◌, ◌≤◌, nat_le, nat_lt, min, max, Bool, true, false, cond, ◌&&◌, if◌then◌else◌, List, [], ◌∷◌, ◌++◌, length, get_or, take, ⊎_elim, option_map, Option, None, Some, arith}
 use Rattle.std.proofs.lemmas.Bool.{cases_lt, leb-false, ltb-false, cond-true, cond-false, leb-true, lt-ltb, ltb-true}
 use Rattle.std.proofs.lemmas.Bool.Decides.{nat_tests}
 use Rattle.std.proofs.lemmas.List.{take_more}
@@ -15,8 +15,7 @@ use Rattle.graphite_part.specs.declared.piece.Piece.{Piece}
 use Rattle.graphite_part.specs.Pieces.{value_at, painted, last_end, AreRuns}
 use Rattle.graphite_part.proofs.FillLemmas.{value_at-past}
 use Rattle.graphite_api.specs.declared.path_query.PathQuery.{PathQuery}
-use Rattle.graphite_api.specs.Journey.{journey_value}
-use Rattle.graphite_paths.specs.Start.{begun_in, value_in, values_of_source}
+use Rattle.graphite_paths.specs.Start.{begun_in, value_in, value_of_waiting, values_of_source}
 
 tested-ends : (a b : ℕ) (c d : Bool) (before : nat_lt a b ≡ c) (within : nat_le b LAST ≡ d) (over : Interval) → tested a b c d before within ≡ Some over → (start_of over ≡ a) × (end_of over ≡ b)
 tested-ends a b true true before within over is =
@@ -44,11 +43,14 @@ begun_in-begins query span begun is = by (nat_lt (max (start_of span) query.from
     by false e = absurd (none-some begun (sym (cond-false _ _ _ e) ∙ is))
 
 -- a lifespan in which none begins has no value
-pub value_in-none : (query : PathQuery) (span : Interval) (t : ℕ) → begun_in query span ≡ None → value_in query span t ≡ None
-value_in-none query span t none = ap (λ o. option_and_then (λ begun. if nat_le (start_of begun) t then Some (journey_value query.kind (start_of begun) []) else None) o) none
+abbrev value_after : PathQuery → ℕ → Interval → Option ℕ
+value_after query t begun = if nat_le (start_of begun) t then Some (value_of_waiting query begun t) else None
 
-pub value_in-some : (query : PathQuery) (span begun : Interval) (t : ℕ) → begun_in query span ≡ Some begun → value_in query span t ≡ cond (nat_le (start_of begun) t) (Some (journey_value query.kind (start_of begun) [])) None
-value_in-some query span begun t is = ap (λ o. option_and_then (λ begun. if nat_le (start_of begun) t then Some (journey_value query.kind (start_of begun) []) else None) o) is
+pub value_in-none : (query : PathQuery) (span : Interval) (t : ℕ) → begun_in query span ≡ None → value_in query span t ≡ None
+value_in-none query span t none = ap (option_and_then (value_after query t)) none
+
+pub value_in-some : (query : PathQuery) (span begun : Interval) (t : ℕ) → begun_in query span ≡ Some begun → value_in query span t ≡ cond (nat_le (start_of begun) t) (Some (value_of_waiting query begun t)) None
+value_in-some query span begun t is = ap (option_and_then (value_after query t)) is
 
 -- the values over a lifespan, put behind other pieces
 abbrev pub with_lifespan : PathQuery → List (Piece (Option ℕ)) → Interval → ℕ → Option (Option ℕ)
@@ -61,37 +63,63 @@ with_none query old new span none runs = record {
   values = λ t. runs.values t ∙ ap (λ o. cond (holds span t) (Some o) (value_at old t)) (sym (value_in-none query span t none));
 }
 
--- none was put over the instants from a up to b
-abbrev pub NoneBetween : (old mid : List (Piece (Option ℕ))) (a b : ℕ) → Type 0
-NoneBetween old mid a b = (t : ℕ) → value_at mid t ≡ cond (nat_le a t && nat_lt t b) (Some None) (value_at old t)
+-- the values of g were put over the instants from a up to b
+abbrev pub Between : (g : ℕ → Option ℕ) (old mid : List (Piece (Option ℕ))) (a b : ℕ) → Type 0
+Between g old mid a b = (t : ℕ) → value_at mid t ≡ cond (nat_le a t && nat_lt t b) (Some (g t)) (value_at old t)
 
-pub NoneBetween-pushed : (old mid : List (Piece (Option ℕ))) (a b : ℕ) (before : Interval) → start_of before ≡ a → end_of before ≡ b → AreRuns (painted (value_at old) before None) mid → NoneBetween old mid a b
-NoneBetween-pushed old mid a b before starts ends runs t =
-    runs.values t ∙ ap (λ n. cond (nat_le n t && nat_lt t (end_of before)) (Some None) (value_at old t)) starts
-    ∙ ap (λ n. cond (nat_le a t && nat_lt t n) (Some None) (value_at old t)) ends
+between-not : (a b t : ℕ) → b ≤ t → (nat_le a t && nat_lt t b) ≡ false
+between-not a b t order = grind (arith, nat_tests)
+
+between-longer : (a b s t : ℕ) → t < s → s ≤ b → (nat_le a t && nat_lt t s) ≡ (nat_le a t && nat_lt t b)
+between-longer a b s t early within = grind (arith, nat_tests)
+
+between-in : (a b t : ℕ) → a ≤ t → t < b → (nat_le a t && nat_lt t b) ≡ true
+between-in a b t from until = grind (arith, nat_tests)
 
 -- there are no such instants
-pub NoneBetween-same : (old : List (Piece (Option ℕ))) (a b : ℕ) → b ≤ a → NoneBetween old old a b
-NoneBetween-same old a b order t = sym (cond-false (nat_le a t && nat_lt t b) _ _ (apart a b t order))
+pub Between-none : (g : ℕ → Option ℕ) (old : List (Piece (Option ℕ))) (a b : ℕ) → b ≤ a → Between g old old a b
+Between-none g old a b order t = sym (cond-false (nat_le a t && nat_lt t b) _ _ (apart a b t order))
   where
     apart : (a b t : ℕ) → b ≤ a → (nat_le a t && nat_lt t b) ≡ false
     apart a b t order = grind (arith, nat_tests)
 
-between-past : (a b t : ℕ) → b ≤ t → (nat_le a t && nat_lt t b) ≡ false
-between-past a b t order = grind (arith, nat_tests)
+-- one interval more over which g has one value
+pub Between-more : (g : ℕ → Option ℕ) (old mid new : List (Piece (Option ℕ))) (a b c : ℕ) (over : Interval) (value : Option ℕ) → start_of over ≡ b → end_of over ≡ c → a ≤ b → ((t : ℕ) → b ≤ t → t < c → g t ≡ value) → Between g old mid a b → AreRuns (painted (value_at mid) over value) new → Between g old new a c
+Between-more g old mid new a b c over value starts ends order same so_far runs t = runs.values t ∙ ⊎_elim
+    (λ (early : t < b).
+    cond-false _ _ _ (holds_before over t (omega (arith, early, starts))) ∙ so_far t
+    ∙ ap (λ inside. cond inside (Some (g t)) (value_at old t)) (between-longer a c b t early (let proper = over.proper.0 in omega (arith, proper, starts, ends))))
+    (λ (from : b ≤ t). ⊎_elim
+    (λ (until : t < c).
+    cond-true _ _ _ (holds-from over t (omega (arith, from, starts)) (omega (arith, until, ends)))
+    ∙ ap Some (sym (same t from until)) ∙ sym (cond-true _ _ _ (between-in a c t (omega (arith, order, from)) until)))
+    (λ (past : c ≤ t).
+    cond-false _ _ _ (holds_after over t (omega (arith, past, ends)))
+    ∙ so_far t ∙ cond-false _ _ _ (between-not a b t from) ∙ sym (cond-false _ _ _ (between-not a c t past)))
+    (cases_lt t c))
+    (cases_lt t b)
 
-between-longer : (a b s t : ℕ) → t < s → s < b → (nat_le a t && nat_lt t s) ≡ (nat_le a t && nat_lt t b)
-between-longer a b s t early within = grind (arith, nat_tests)
+-- the latest start up to each instant, before the end of the window
+abbrev pub latest_start : ℕ → ℕ → Option ℕ
+latest_start until t = Some (min t (until - 1))
 
--- none up to the first instant of a journey, and its value from there on
-module _ (query : PathQuery) (old mid new : List (Piece (Option ℕ))) (span begun : Interval) (value : ℕ) (is : begun_in query span ≡ Some begun) (none : NoneBetween old mid (start_of span) (start_of begun)) (value_is : value ≡ journey_value query.kind (start_of begun) []) where
-  value_here : (t : ℕ) → painted (value_at mid) begun (Some value) t ≡ cond (holds span t) (Some (cond (nat_le (start_of begun) t) (Some value) None)) (value_at old t)
+-- the instants so far, each with itself as its start
+pub record HaveStarted (old new : List (Piece (Option ℕ))) (a until start : ℕ) : Type 0 where
+  pub values : Between (latest_start until) old new a start
+  pub end : last_end new ≤ start
+
+-- none up to the first instant of a journey, and the values of those that begin from there on
+module _ (query : PathQuery) (old mid new : List (Piece (Option ℕ))) (span begun : Interval) (is : begun_in query span ≡ Some begun) (none : Between (λ t. None) old mid (start_of span) (start_of begun)) where
+  value_here : (t : ℕ) → cond (holds begun t) (Some (Some (value_of_waiting query begun t))) (value_at mid t) ≡ cond (holds span t) (Some (cond (nat_le (start_of begun) t) (Some (value_of_waiting query begun t)) None)) (value_at old t)
   value_here t = by (nat_le (start_of begun) t) (nat_lt t (end_of span)) refl refl
     where
       begins : Begins query span begun
       begins = begun_in-begins query span begun is
 
-      by : (b c : Bool) → nat_le (start_of begun) t ≡ b → nat_lt t (end_of span) ≡ c → painted (value_at mid) begun (Some value) t ≡ cond (holds span t) (Some (cond (nat_le (start_of begun) t) (Some value) None)) (value_at old t)
+      value : Option ℕ
+      value = Some (value_of_waiting query begun t)
+
+      by : (b c : Bool) → nat_le (start_of begun) t ≡ b → nat_lt t (end_of span) ≡ c → cond (holds begun t) (Some value) (value_at mid t) ≡ cond (holds span t) (Some (cond (nat_le (start_of begun) t) value None)) (value_at old t)
       by true true e d =
           let from = leb-true _ _ e in
           let until = ltb-true _ _ d in
@@ -101,19 +129,18 @@ module _ (query : PathQuery) (old mid new : List (Piece (Option ℕ))) (span beg
           let past = ltb-false _ _ d in
           let from = leb-true _ _ e in
           cond-false _ _ _ (holds_after begun t (omega (arith, past, begins.end)))
-          ∙ none t ∙ cond-false _ _ _ (between-past (start_of span) (start_of begun) t from) ∙ sym (cond-false _ _ _ (holds_after span t past))
+          ∙ none t ∙ cond-false _ _ _ (between-not (start_of span) (start_of begun) t from) ∙ sym (cond-false _ _ _ (holds_after span t past))
       by false c e d =
           let early = leb-false _ _ e in
           cond-false _ _ _ (holds_before begun t early) ∙ none t
-          ∙ ap (λ b. cond b (Some None) (value_at old t)) (between-longer (start_of span) (end_of span) (start_of begun) t early (omega (arith, begins.end, begun.proper.0)))
+          ∙ ap (λ b. cond b (Some None) (value_at old t)) (between-longer (start_of span) (end_of span) (start_of begun) t early (let proper = begun.proper.0 in omega (arith, begins.end, proper)))
           ∙ ap (λ o. cond (holds span t) (Some o) (value_at old t)) (sym (cond-false _ _ _ e))
 
-  pub with_value : AreRuns (painted (value_at mid) begun (Some value)) new → AreRuns (with_lifespan query old span) new
+  pub with_value : AreRuns (λ t. cond (holds begun t) (Some (Some (value_of_waiting query begun t))) (value_at mid t)) new → AreRuns (with_lifespan query old span) new
   with_value runs = record {
     in_order = runs.in_order;
     values = λ t.
         runs.values t ∙ value_here t
-        ∙ ap (λ x. cond (holds span t) (Some (cond (nat_le (start_of begun) t) (Some x) None)) (value_at old t)) value_is
         ∙ ap (λ o. cond (holds span t) (Some o) (value_at old t)) (sym (value_in-some query span begun t is));
   }
 

@@ -12,9 +12,11 @@ use Rattle.graphite_time.proofs.LifeLemmas.{holds-true, holds-from, holds_after,
 use Rattle.graphite_time.proofs.MeetLemmas.{interval_between-made}
 use Rattle.graphite_part.specs.declared.piece.Piece.{Piece}
 use Rattle.graphite_part.specs.Pieces.{value_at, AreRuns}
+use Rattle.graphite_api.specs.declared.kind.Kind.{Kind}
+use Rattle.graphite_api.specs.declared.kind.Kind.TheVariants.{Reach, Earliest, Cheapest, Fastest, Latest}
 use Rattle.graphite_api.specs.declared.path_query.PathQuery.{PathQuery}
 use Rattle.graphite_api.specs.Hop.{Hop}
-use Rattle.graphite_api.specs.Journey.{journey_value, IsBestWithin}
+use Rattle.graphite_api.specs.Journey.{journey_value, IsAsGood, IsBestWithin}
 use Rattle.graphite_api.specs.Table.{life_of, vertex_is_alive}
 use Rattle.graphite_api.proofs.WaitLemmas.{waits-first, waits-last}
 use Rattle.graphite_api.proofs.StayLemmas.{waits-one_lifespan, waits_in_lifespan}
@@ -22,10 +24,10 @@ use Rattle.graphite_loop.specs.Journeys.{vertex_value}
 use Rattle.graphite_loop.specs.Progress.{AreInitial}
 use Rattle.graphite_loop.specs.Superstep.{list_at}
 use Rattle.graphite_loop.proofs.PointLemmas.{list_at-past}
-use Rattle.graphite_paths.specs.Forward.{IsForward}
-use Rattle.graphite_paths.specs.Start.{begun_in, value_in, start_values}
+use Rattle.graphite_paths.specs.Forward.{IsOnward}
+use Rattle.graphite_paths.specs.Start.{begun_in, best_begin, value_of_waiting, value_in, start_values}
 use Rattle.graphite_paths.proofs.StartLemmas.{begun_in-begins, value_in-none, value_in-some}
-use Rattle.graphite_paths.proofs.WaitingLemmas.{IsWaiting, best-none, best-first}
+use Rattle.graphite_paths.proofs.WaitingLemmas.{IsWaiting, best-none, best-waiting}
 
 -- the lifespan that holds an instant is the one found for it
 found_later : (before : Interval) (spans : List Interval) (p t : ℕ) (span : Interval) → ComeAfter before spans → lifespan_at (before ∷ spans) p ≡ Some span → holds span t ≡ true → lifespan_at (before ∷ spans) t ≡ Some span
@@ -72,6 +74,24 @@ module _ (lives : List (List Interval)) (lives_are : All IsLife lives) (query : 
           let same = same_Some _ _ (sym (found-same (life_of lives v) at t other e life now) ∙ found) in
           subst (λ x. holds x at ≡ true) same (lifespan_at-holds (life_of lives v) at other e)
 
+-- of the instants at which to begin, this one is the best
+record IsBestBegin (kind : Kind) (first end t begin : ℕ) : Type 0 where
+  pub from : first ≤ begin
+  pub until : begin < end
+  pub order : begin ≤ t
+  pub best : (at : ℕ) → first ≤ at → at < end → at ≤ t → IsAsGood kind (journey_value kind begin []) (journey_value kind at [])
+
+best_begin-is : (kind : Kind) → IsOnward kind → (first until t : ℕ) → first ≤ t → first < until → IsBestBegin kind first until t (best_begin kind first until t)
+best_begin-is Reach onward first until t order before =
+    record { from = omega arith; until = before; order = order; best = λ at from within here. omega arith }
+best_begin-is Earliest onward first until t order before =
+    record { from = omega arith; until = before; order = order; best = λ at from within here. from }
+best_begin-is Cheapest onward first until t order before =
+    record { from = omega arith; until = before; order = order; best = λ at from within here. omega arith }
+best_begin-is Fastest onward first until t order before =
+    record { from = omega arith; until = omega arith; order = omega arith; best = λ at from within here. omega arith }
+best_begin-is Latest onward first until t order before = absurd (onward refl)
+
 -- where none begins, none waits
 pub begun_in-never : (query : PathQuery) (span : Interval) (at : ℕ) → begun_in query span ≡ None → holds span at ≡ true → query.from ≤ at → at < query.until → ⊥
 begun_in-never query span at none held from until =
@@ -87,43 +107,46 @@ no_value = None
 abbrev value_if : Bool → Option ℕ → Option (Option ℕ)
 value_if b value = cond b (Some value) None
 
-module _ (lives : List (List Interval)) (lives_are : All IsLife lives) (IsHop : Hop → Type 0) (query : PathQuery) (forward : IsForward query.kind) where
+module _ (lives : List (List Interval)) (lives_are : All IsLife lives) (IsHop : Hop → Type 0) (query : PathQuery) (onward : IsOnward query.kind) where
   -- the value of the query's vertex in one of its lifespans
   module _ (v t : ℕ) (here : query.vertex ≡ v) (life : IsLife (life_of lives v)) (span : Interval) (found : lifespan_at (life_of lives v) t ≡ Some span) where
-    span-first : (at : ℕ) → IsWaiting (vertex_is_alive lives) query v t at → max (start_of span) query.from ≤ at
-    span-first at waiting =
+    span-from : (at : ℕ) → IsWaiting (vertex_is_alive lives) query v t at → max (start_of span) query.from ≤ at
+    span-from at waiting =
         let low = (holds-true span at (waiting-within lives lives_are query v t at waiting span life found)).0 in omega (arith, low, waiting.from)
 
-    span-waiting : (begun : Interval) → begun_in query span ≡ Some begun → start_of begun ≤ t → IsWaiting (vertex_is_alive lives) query v t (start_of begun)
-    span-waiting begun is order =
+    span-waiting : (begun : Interval) → begun_in query span ≡ Some begun → (at : ℕ) → start_of begun ≤ at → at < query.until → at ≤ t → IsWaiting (vertex_is_alive lives) query v t at
+    span-waiting begun is at from until order =
         let begins = begun_in-begins query span begun is in
         let now = lifespan_at-holds (life_of lives v) t span found in
-        let inside = holds-from span (start_of begun) (omega (arith, begins.start)) (omega (arith, begins.end, begun.proper.0)) in
+        let high = (holds-true span t now).1 in
+        let inside = holds-from span at (omega (arith, begins.start, from)) (omega (arith, order, high)) in
         record {
-          from = omega (arith, begins.start);
-          until = begins.until;
+          from = omega (arith, begins.start, from);
+          until = until;
           here = here;
-          waits = waits_in_lifespan lives v t span found (start_of begun) t inside now order;
+          waits = waits_in_lifespan lives v t span found at t inside now order;
         }
 
     pub best-in_span : IsBestWithin (vertex_is_alive lives) IsHop query 1 v t (value_in query span t)
     best-in_span = by (begun_in query span) refl
       where
-        begun-by : (begun : Interval) → begun_in query span ≡ Some begun → (b : Bool) → nat_le (start_of begun) t ≡ b → IsBestWithin (vertex_is_alive lives) IsHop query 1 v t (cond b (Some (journey_value query.kind (start_of begun) [])) None)
+        begun-by : (begun : Interval) → begun_in query span ≡ Some begun → (b : Bool) → nat_le (start_of begun) t ≡ b → IsBestWithin (vertex_is_alive lives) IsHop query 1 v t (cond b (Some (value_of_waiting query begun t)) None)
         begun-by begun is true e =
             let begins = begun_in-begins query span begun is in
-            best-first (vertex_is_alive lives) IsHop query forward v t (start_of begun) (span-waiting begun is (leb-true _ _ e))
-            (λ at waiting. let low = span-first at waiting in omega (arith, begins.start, low))
+            let begin = best_begin-is query.kind onward (start_of begun) query.until t (leb-true _ _ e) begins.until in
+            best-waiting (vertex_is_alive lives) IsHop query onward v t (best_begin query.kind (start_of begun) query.until t)
+            (span-waiting begun is (best_begin query.kind (start_of begun) query.until t) begin.from begin.until begin.order)
+            (λ at waiting. begin.best at (let low = span-from at waiting in omega (arith, begins.start, low)) waiting.until waiting.waits.order)
         begun-by begun is false e =
             let begins = begun_in-begins query span begun is in
             let late = leb-false _ _ e in
-            best-none (vertex_is_alive lives) IsHop query forward v t
-            (λ at waiting. let low = span-first at waiting in omega (arith, begins.start, low, late, waiting.waits.order))
+            best-none (vertex_is_alive lives) IsHop query onward v t
+            (λ at waiting. let low = span-from at waiting in omega (arith, begins.start, low, late, waiting.waits.order))
 
         by : (o : Option Interval) → begun_in query span ≡ o → IsBestWithin (vertex_is_alive lives) IsHop query 1 v t (value_in query span t)
         by None e =
             subst (IsBestWithin (vertex_is_alive lives) IsHop query 1 v t) (sym (value_in-none query span t e))
-            (best-none (vertex_is_alive lives) IsHop query forward v t (λ at waiting. begun_in-never query span at e (waiting-within lives lives_are query v t at waiting span life found) waiting.from waiting.until))
+            (best-none (vertex_is_alive lives) IsHop query onward v t (λ at waiting. begun_in-never query span at e (waiting-within lives lives_are query v t at waiting span life found) waiting.from waiting.until))
         by (Some begun) e =
             subst (IsBestWithin (vertex_is_alive lives) IsHop query 1 v t) (sym (value_in-some query span begun t e)) (begun-by begun e (nat_le (start_of begun) t) refl)
 
@@ -137,7 +160,7 @@ module _ (lives : List (List Interval)) (lives_are : All IsLife lives) (IsHop : 
 
       source-by : query.vertex ≡ v → (o : Option Interval) → lifespan_at (life_of lives v) t ≡ o → IsBestWithin (vertex_is_alive lives) IsHop query 1 v t (option_flatten (option_map (λ span. value_in query span t) o))
       source-by here None e =
-          best-none (vertex_is_alive lives) IsHop query forward v t (λ at waiting. waiting-found lives lives_are query v t at waiting e)
+          best-none (vertex_is_alive lives) IsHop query onward v t (λ at waiting. waiting-found lives lives_are query v t at waiting e)
       source-by here (Some span) e = best-in_span v t here (All-get_or IsLife lives v [] within lives_are) span e
 
       by : (b : Bool) → (v == query.vertex) ≡ b → IsBestWithin (vertex_is_alive lives) IsHop query 1 v t (option_flatten (start_values lives query v t))
@@ -146,7 +169,7 @@ module _ (lives : List (List Interval)) (lives_are : All IsLife lives) (IsHop : 
           (source-by (sym (eqb-true v query.vertex e)) (lifespan_at (life_of lives v) t) refl)
       by false e =
           subst (IsBestWithin (vertex_is_alive lives) IsHop query 1 v t) (sym (ap option_flatten (cond-false _ _ _ e) ∙ none_flat (is_held (life_of lives v) t)))
-          (best-none (vertex_is_alive lives) IsHop query forward v t (λ at waiting. false≢true (sym e ∙ eq-eqb v query.vertex (sym waiting.here))))
+          (best-none (vertex_is_alive lives) IsHop query onward v t (λ at waiting. false≢true (sym e ∙ eq-eqb v query.vertex (sym waiting.here))))
 
 -- a vertex has a value, or that there is none, exactly while it is alive
 start-alive : (lives : List (List Interval)) (query : PathQuery) (v t : ℕ) → is_some (start_values lives query v t) ≡ vertex_is_alive lives v t
@@ -196,12 +219,12 @@ module _ (lives : List (List Interval)) (query : PathQuery) (init : List (List (
       same : (v t : ℕ) → v < length lives → is_some (value_at (list_at init v) t) ≡ vertex_is_alive lives v t
       same v t within = ap is_some ((started.runs v within).values t) ∙ start-alive lives query v t
 
-  pub started-best : (IsHop : Hop → Type 0) → All IsLife lives → IsForward query.kind → query.vertex < length lives → (v t : ℕ) → IsBestWithin (vertex_is_alive lives) IsHop query 1 v t (vertex_value init v t)
-  started-best IsHop lives_are forward among v t =
+  pub started-best : (IsHop : Hop → Type 0) → All IsLife lives → IsOnward query.kind → query.vertex < length lives → (v t : ℕ) → IsBestWithin (vertex_is_alive lives) IsHop query 1 v t (vertex_value init v t)
+  started-best IsHop lives_are onward among v t =
       ⊎_elim
       (λ (within : v < length lives).
-      subst (IsBestWithin (vertex_is_alive lives) IsHop query 1 v t) (sym (ap option_flatten ((started.runs v within).values t))) (best-start lives lives_are IsHop query forward v t within))
+      subst (IsBestWithin (vertex_is_alive lives) IsHop query 1 v t) (sym (ap option_flatten ((started.runs v within).values t))) (best-start lives lives_are IsHop query onward v t within))
       (λ (past : length lives ≤ v).
       subst (IsBestWithin (vertex_is_alive lives) IsHop query 1 v t) (sym (ap (λ pieces. option_flatten (value_at pieces t)) (list_at-past init v (omega (arith, past, started.len)))))
-      (best-none (vertex_is_alive lives) IsHop query forward v t (λ at waiting. omega (arith, past, among, waiting.here))))
+      (best-none (vertex_is_alive lives) IsHop query onward v t (λ at waiting. omega (arith, past, among, waiting.here))))
       (cases_lt v (length lives))

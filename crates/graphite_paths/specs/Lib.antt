@@ -1,5 +1,7 @@
 pub mod Answer
 pub mod Crossing
+pub mod Durations
 pub mod Forward
-pub mod Least
+pub mod Next
 pub mod Start
+pub mod Turned

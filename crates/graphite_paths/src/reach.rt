@@ -4,7 +4,7 @@ ghost use Rattle.graphite_api.specs.Values.{journey_rules};
 ghost use Rattle.graphite_api.specs.KindValues.{reach_values};
 ghost use Rattle.graphite_api.proofs.KindLemmas.{reach_is_lawful};
 
-use crate::least::{least_next, note_on_arrival};
+use crate::best::{least_next, note_on_arrival};
 use graphite_api::{Arc, JourneyProgram, Message, Next, Program};
 use graphite_time::Interval;
 use std::marker::Model;

@@ -1,14 +1,16 @@
 //! The states that a program of journeys starts with.
-ghost use Rattle.std.specs.Prelude.{◌≡◌, ◌<◌, ◌≤◌, ℕ, [], if◌then◌else◌, length, Some, IfOk, OnOk};
+ghost use Rattle.std.specs.Prelude.{◌≡◌, ◌+◌, ◌-◌, ◌<◌, ◌≤◌, ℕ, if◌then◌else◌, length, min, Some, IfOk, OnOk};
 ghost use Rattle.graphite_time.specs.Interval.{start_of, end_of, holds};
 ghost use Rattle.graphite_part.specs.Pieces.{value_at, last_end, AreRuns};
-ghost use Rattle.graphite_api.specs.Journey.{journey_value, IsBestWithin};
+ghost use Rattle.graphite_api.specs.declared.kind.Kind.TheVariants.{Fastest};
+ghost use Rattle.graphite_api.specs.Journey.{IsBestWithin};
 ghost use Rattle.graphite_api.specs.Table.{vertex_is_alive};
 ghost use Rattle.graphite_api.specs.TableHops.{IsHopOn};
 ghost use Rattle.graphite_loop.specs.Journeys.{vertex_value};
 ghost use Rattle.graphite_loop.specs.Progress.{AreInitial};
-ghost use Rattle.graphite_paths.specs.Forward.{IsForward};
-ghost use Rattle.graphite_paths.specs.Start.{begun_in, value_in, values_of_source, start_values};
+ghost use Rattle.graphite_paths.specs.declared.TheConstants.{FASTEST_WINDOW};
+ghost use Rattle.graphite_paths.specs.Forward.{IsOnward};
+ghost use Rattle.graphite_paths.specs.Start.{begun_in, value_in, value_of_waiting, values_of_source, start_values};
 
 use graphite_api::{ArcTable, Kind, PathQuery};
 use graphite_part::Partition;
@@ -17,15 +19,16 @@ use std::alloc::Global;
 
 /// The values of journeys without hops, as the states that a run starts with. At each instant of its life
 /// the query's vertex has the best value of those that begin within the window and wait there up to then,
-/// if there is one; every other vertex has none. The kind is [`Kind::Reach`], [`Kind::Earliest`] or
-/// [`Kind::Cheapest`].
+/// if there is one; every other vertex has none. The kind is not [`Kind::Latest`]. For [`Kind::Fastest`] the window
+/// has at most [`FASTEST_WINDOW`](crate::FASTEST_WINDOW) instants, since each of them makes a piece.
 pub fn path_start(
     alloc: Global,
     table: &ArcTable,
     query: &PathQuery,
 ) -> Result<Vec<Partition<Option<u64>>>, NoMemory>
     requires vertex { query.now.vertex < length table.now.lives }
-    requires kind { IsForward query.now.kind }
+    requires kind { IsOnward query.now.kind }
+    requires window { query.now.kind ≡ Fastest → query.now.until ≤ query.now.from + FASTEST_WINDOW }
     ensures init { IfOk result (λ init. AreInitial table.now.lives init.items) }
     ensures values { IfOk result (λ init. (v t : ℕ) → IsBestWithin (vertex_is_alive table.now.lives)
         (IsHopOn table.now.arcs) query.now 1 v t (vertex_value init.items v t)) }
@@ -72,7 +75,7 @@ fn start_of_source(
 }
 
 /// Adds the values over a lifespan: none up to the first instant at which a journey can begin in it, then
-/// the value of that journey.
+/// those of the journeys that do.
 fn add_lifespan(
     values: &mut Partition<Option<u64>>,
     query: &PathQuery,
@@ -89,7 +92,7 @@ fn add_lifespan(
     if let Some(before) = Interval::new(span.a(), begun.a()) {
         values.push(before, None)?;
     }
-    values.push(begun, Some(value_of_waiting(query.kind, begun.a())))
+    add_begun(values, query, begun)
 }
 
 /// The instants of a lifespan from the first one on that the window holds. `None` where it holds none.
@@ -103,12 +106,42 @@ fn begun_in(query: &PathQuery, span: Interval) -> Option<Interval>
     Interval::new(first, span.b())
 }
 
-/// The value of a journey without hops that begins at an instant.
-fn value_of_waiting(kind: Kind, at: u64) -> u64
-    ensures { result ≡ journey_value kind at [] }
+/// Adds the values over a lifespan from the first instant on at which a journey can begin in it.
+fn add_begun(
+    values: &mut Partition<Option<u64>>,
+    query: &PathQuery,
+    begun: Interval,
+) -> Result<(), NoMemory>
+    requires later { last_end values.old ≤ start_of begun }
+    requires within { start_of begun < query.now.until }
+    ensures values { OnOk result (AreRuns (λ t. if holds begun t then Some (Some (value_of_waiting query.now begun t))
+        else value_at values.old t) values.new) }
+    ensures end { OnOk result (last_end values.new ≡ end_of begun) }
 {
-    match kind {
-        Kind::Reach | Kind::Cheapest => 0,
-        Kind::Earliest | Kind::Fastest | Kind::Latest => at,
+    match query.kind {
+        Kind::Reach | Kind::Cheapest => values.push(begun, Some(0)),
+        Kind::Earliest | Kind::Latest => values.push(begun, Some(begun.a())),
+        Kind::Fastest => add_starts(values, begun, query.until),
     }
+}
+
+/// Adds over such instants the latest start up to each of them, within the window that ends at `until`.
+fn add_starts(
+    values: &mut Partition<Option<u64>>,
+    begun: Interval,
+    until: u64,
+) -> Result<(), NoMemory>
+    requires later { last_end values.old ≤ start_of begun }
+    requires within { start_of begun < until }
+    ensures values { OnOk result (AreRuns (λ t. if holds begun t then Some (Some (min t (until - 1)))
+        else value_at values.old t) values.new) }
+    ensures end { OnOk result (last_end values.new ≡ end_of begun) }
+{
+    let last = begun.b().min(until) - 1;
+    for start in begun.a()..last {
+        let alone = Interval::new(start, start + 1).unwrap();
+        values.push(alone, Some(start))?;
+    }
+    let rest = Interval::new(last, begun.b()).unwrap();
+    values.push(rest, Some(last))
 }

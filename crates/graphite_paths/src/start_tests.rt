@@ -1,5 +1,5 @@
 //! The states to start with, on a table by hand.
-ghost use Rattle.graphite_paths.specs.Forward.{IsForward};
+ghost use Rattle.graphite_paths.specs.Forward.{IsOnward};
 
 use super::*;
 use graphite_api::{ArcTable, Kind, PathQuery};
@@ -32,8 +32,11 @@ fn starts(
     from: u64,
     until: u64,
 ) -> Result<Vec<Partition<Option<u64>>>, Fail>
-    requires { IsForward kind }
+    requires { IsOnward kind }
 {
+    if until > from.saturating_add(FASTEST_WINDOW) {
+        return Err("a wide window")?;
+    }
     let table = two_vertices(alloc)?;
     let query = PathQuery {
         kind,
@@ -94,6 +97,13 @@ fn a_value_throughout_where_the_window_holds_the_first_instant(
 ) -> Result<(), Fail> {
     let throughout = [(2, 8, Some(2))];
     assert_starts(&rt, &starts(rt.alloc(), Kind::Earliest, 0, 6)?, &throughout);
+    Ok(())
+}
+
+#[test]
+fn each_instant_of_the_window_up_to_the_last_one(rt: HostRuntime) -> Result<(), Fail> {
+    let latest = [(2, 4, None), (4, 5, Some(4)), (5, 8, Some(5))];
+    assert_starts(&rt, &starts(rt.alloc(), Kind::Fastest, 4, 6)?, &latest);
     Ok(())
 }
 

@@ -1,4 +1,4 @@
-//! The law of programs of journeys as code uses it that is generic over them, and the three programs on
+//! The law of programs of journeys as code uses it that is generic over them, and the four programs on
 //! an arc by hand.
 ghost use Rattle.std.specs.Prelude.{◌≡◌, ◌+◌, ◌^◌, ◌<◌, ◌≤◌, ◌∷◌, [], ℕ, IsTrue};
 ghost use Rattle.graphite_time.specs.Interval.{start_of, end_of};
@@ -88,7 +88,16 @@ fn values_are_told_on_arrival(rt: HostRuntime) -> Result<(), Fail> {
     assert_eq!(rt; message(&Earliest::new(), 1, 1)?, Some((10, 13, 10)));
     assert_eq!(rt; message(&Cheapest::new(), 5, 1)?, Some((10, 13, 12)));
     assert_eq!(rt; message(&Cheapest::new(), 5, 4)?, None);
+    assert_eq!(rt; message(&Fastest::new(), 1, 2)?, Some((11, 13, 1)));
     Ok(())
+}
+
+#[test]
+fn the_greatest_value_is_kept(rt: HostRuntime) {
+    let mut fastest = Fastest::new();
+    let news = outcome(&mut fastest, 2, Some(4), 6);
+    assert_eq!(rt; (news.state, news.send), (Some(6), true));
+    assert_eq!(rt; fastest.calls(), 1);
 }
 
 #[test]

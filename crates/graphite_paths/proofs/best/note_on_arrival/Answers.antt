@@ -1,7 +1,7 @@
 use Rattle.std.proofs.Common.{◌∙◌, sym}
 use Rattle.graphite_time.specs.Interval.{start_of}
-use Rattle.graphite_paths.proofs.LeastLemmas.{arrives}
-use Rattle.graphite_paths.proofs.least.note_on_arrival.Goals as goal
+use Rattle.graphite_paths.proofs.NextLemmas.{arrives}
+use Rattle.graphite_paths.proofs.best.note_on_arrival.Goals as goal
 
 pub returns : goal.returns
 returns c =

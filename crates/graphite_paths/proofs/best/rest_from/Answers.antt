@@ -2,7 +2,7 @@ use Rattle.std.proofs.Common.{◌∙◌, sym, ap}
 use Rattle.std.proofs.lemmas.Bool.{cond-true}
 use Rattle.graphite_time.specs.Interval.{holds}
 use Rattle.graphite_time.specs.Meet.{interval_between}
-use Rattle.graphite_paths.proofs.least.rest_from.Goals as goal
+use Rattle.graphite_paths.proofs.best.rest_from.Goals as goal
 
 pub returns : goal.returns
 returns c =
