@@ -1,3 +1,5 @@
 mod WorkedRuns
 pub mod CallLemmas
 pub mod SnapLemmas
+pub mod PathLemmas
+pub mod AskedLemmas

@@ -13,42 +13,42 @@ use Rattle.graphite_words.specs.declared.query.Report.{Report}
 use Rattle.graphite_words.specs.declared.query.Report.TheVariants.{Intervals, Sums, At}
 use Rattle.graphite_words.specs.Words.{PlainQuery}
 use Rattle.graphite_top.specs.declared.status.Status.TheVariants.{Done, TextRefused, QueryRefused}
-use Rattle.graphite_top.specs.Output.{text_answer}
+use Rattle.graphite_top.specs.Output.{Known, text_output}
 
 -- a query for a program without options, for one with a source, with a key, and with a number of supersteps
 abbrev plain : Command → Report → PlainQuery
-plain command report = record { command = command; vertex = None; key = None; steps = None; report = report }
+plain command report = record { command = command; vertex = None; key = None; from = 0; until = None; steps = None; report = report }
 
 abbrev from : List ℕ → Command → PlainQuery
-from name command = record { command = command; vertex = Some name; key = None; steps = None; report = Intervals }
+from name command = record { command = command; vertex = Some name; key = None; from = 0; until = None; steps = None; report = Intervals }
 
 abbrev under : List ℕ → Command → PlainQuery
-under key command = record { command = command; vertex = None; key = Some key; steps = None; report = Intervals }
+under key command = record { command = command; vertex = None; key = Some key; from = 0; until = None; steps = None; report = Intervals }
 
 abbrev within : ℕ → Command → PlainQuery
-within steps command = record { command = command; vertex = None; key = None; steps = Some steps; report = Intervals }
+within steps command = record { command = command; vertex = None; key = None; from = 0; until = None; steps = Some steps; report = Intervals }
 
 abbrev stops : List ℕ
 stops = codes "graph 1 10\nv a 0 10\nv b 0 10\nv c 2 8\ne ab a b 0 5\ne bc b c 3 7\nend\n"
 
-worked : text_answer (plain Degree Intervals) stops
-    ≡ record { status = Done; text = codes "graphite degree steps 0 calls 0\na 0 5 1\na 5 10 0\nb 0 3 0\nb 3 7 1\nb 7 10 0\nc 2 8 0\nend\n" }
+worked : text_output (plain Degree Intervals) stops
+    ≡ Known (record { status = Done; text = codes "graphite degree steps 0 calls 0\na 0 5 1\na 5 10 0\nb 0 3 0\nb 3 7 1\nb 7 10 0\nc 2 8 0\nend\n" })
 unfolding reading_of runs_of vertex_lines intervals_report digits
 worked = refl
 
-refused : text_answer (plain Degree Intervals) (codes "graph 1 10\nv a 0 10\nv b 0 10\nv c 2 8\ne ac a c 0 5\ne bc b c 3 7\nend\n")
-    ≡ record { status = TextRefused; text = codes "refused text line 5 rule 9\n" }
+refused : text_output (plain Degree Intervals) (codes "graph 1 10\nv a 0 10\nv b 0 10\nv c 2 8\ne ac a c 0 5\ne bc b c 3 7\nend\n")
+    ≡ Known (record { status = TextRefused; text = codes "refused text line 5 rule 9\n" })
 unfolding reading_of digits
 refused = refl
 
-shown : text_answer (plain Show Intervals) (codes "# bus\ngraph 1 10\n\nv a 0 10\npv a load 0 4 7\nv b 0 10\ne ab a b 0 5\npe ab cost 0 5 3\npv b load 2 6 3\nend\n# done\n")
-    ≡ record { status = Done; text = codes "graph 1 10\nv a 0 10\nv b 0 10\ne ab a b 0 5\npv a load 0 4 7\npv b load 2 6 3\npe ab cost 0 5 3\nend\n" }
+shown : text_output (plain Show Intervals) (codes "# bus\ngraph 1 10\n\nv a 0 10\npv a load 0 4 7\nv b 0 10\ne ab a b 0 5\npe ab cost 0 5 3\npv b load 2 6 3\nend\n# done\n")
+    ≡ Known (record { status = Done; text = codes "graph 1 10\nv a 0 10\nv b 0 10\ne ab a b 0 5\npv a load 0 4 7\npv b load 2 6 3\npe ab cost 0 5 3\nend\n" })
 unfolding reading_of canonical_text digits
 shown = refl
 
 -- two vertices, and an edge between them at the first of two instants
-searched : text_answer (from (codes "a") Bfs) (codes "graph 1 2\nv a 0 2\nv b 0 2\ne ab a b 0 1\nend\n")
-    ≡ record { status = Done; text = codes "graphite bfs steps 3 calls 3\na 0 2 0\nb 0 1 1\nb 1 2 none\nend\n" }
+searched : text_output (from (codes "a") Bfs) (codes "graph 1 2\nv a 0 2\nv b 0 2\ne ab a b 0 1\nend\n")
+    ≡ Known (record { status = Done; text = codes "graphite bfs steps 3 calls 3\na 0 2 0\nb 0 1 1\nb 1 2 none\nend\n" })
 unfolding reading_of runs_of vertex_lines intervals_report digits is_quiet supersteps_made calls_in calls_made
 searched = refl
 
@@ -56,40 +56,40 @@ searched = refl
 abbrev loaded : List ℕ
 loaded = codes "graph 1 2\nv a 0 2\nv b 0 2\ne ab a b 0 1\npv a load 0 2 7\npe ab cost 0 1 3\nend\n"
 
-connected : text_answer (plain Components Intervals) loaded ≡ record { status = Done; text = codes "graphite components steps 3 calls 5\na 0 2 0\nb 0 1 0\nb 1 2 1\nend\n" }
+connected : text_output (plain Components Intervals) loaded ≡ Known (record { status = Done; text = codes "graphite components steps 3 calls 5\na 0 2 0\nb 0 1 0\nb 1 2 1\nend\n" })
 unfolding reading_of runs_of vertex_lines intervals_report digits is_quiet supersteps_made calls_in calls_made
 connected = refl
 
-heaviest : text_answer (under (codes "load") Max) loaded ≡ record { status = Done; text = codes "graphite max steps 3 calls 3\na 0 2 7\nb 0 1 7\nb 1 2 none\nend\n" }
+heaviest : text_output (under (codes "load") Max) loaded ≡ Known (record { status = Done; text = codes "graphite max steps 3 calls 3\na 0 2 7\nb 0 1 7\nb 1 2 none\nend\n" })
 unfolding reading_of runs_of vertex_lines intervals_report digits is_quiet supersteps_made calls_in calls_made
 heaviest = refl
 
-cheapest : text_answer (from (codes "a") Distance) loaded ≡ record { status = Done; text = codes "graphite distance steps 3 calls 3\na 0 2 0\nb 0 1 3\nb 1 2 none\nend\n" }
+cheapest : text_output (from (codes "a") Distance) loaded ≡ Known (record { status = Done; text = codes "graphite distance steps 3 calls 3\na 0 2 0\nb 0 1 3\nb 1 2 none\nend\n" })
 unfolding reading_of runs_of vertex_lines intervals_report digits is_quiet supersteps_made calls_in calls_made
 cheapest = refl
 
-ranked : text_answer (within 2 Rank) loaded ≡ record { status = Done; text = codes "graphite rank steps 2 calls 7\na 0 2 75000000\nb 0 1 500000000\nb 1 2 75000000\nend\n" }
+ranked : text_output (within 2 Rank) loaded ≡ Known (record { status = Done; text = codes "graphite rank steps 2 calls 7\na 0 2 75000000\nb 0 1 500000000\nb 1 2 75000000\nend\n" })
 unfolding reading_of runs_of vertex_lines intervals_report digits is_quiet supersteps_made calls_in calls_made
 ranked = refl
 
-no_such_vertex : text_answer (from (codes "z") Bfs) (codes "graph 1 1\nv a 0 1\nend\n")
-    ≡ record { status = QueryRefused; text = codes "refused query 1\n" }
+no_such_vertex : text_output (from (codes "z") Bfs) (codes "graph 1 1\nv a 0 1\nend\n")
+    ≡ Known (record { status = QueryRefused; text = codes "refused query 1\n" })
 unfolding reading_of
 no_such_vertex = refl
 
 -- the other reports
-at_an_instant : text_answer (plain Degree (At 3)) stops ≡ record { status = Done; text = codes "graphite degree steps 0 calls 0\na 1\nb 1\nc 0\nend\n" }
+at_an_instant : text_output (plain Degree (At 3)) stops ≡ Known (record { status = Done; text = codes "graphite degree steps 0 calls 0\na 1\nb 1\nc 0\nend\n" })
 unfolding reading_of instant_report digits
 at_an_instant = refl
 
-after_a_life : text_answer (plain Degree (At 9)) stops ≡ record { status = Done; text = codes "graphite degree steps 0 calls 0\na 0\nb 0\nend\n" }
+after_a_life : text_output (plain Degree (At 9)) stops ≡ Known (record { status = Done; text = codes "graphite degree steps 0 calls 0\na 0\nb 0\nend\n" })
 unfolding reading_of instant_report digits
 after_a_life = refl
 
-at_the_horizon : text_answer (plain Degree (At 10)) stops ≡ record { status = QueryRefused; text = codes "refused query 2\n" }
+at_the_horizon : text_output (plain Degree (At 10)) stops ≡ Known (record { status = QueryRefused; text = codes "refused query 2\n" })
 unfolding reading_of
 at_the_horizon = refl
 
-in_sums : text_answer (plain Degree Sums) stops ≡ record { status = Done; text = codes "graphite degree steps 0 calls 0\na 10 10 5\nb 10 10 4\nc 6 6 0\nend\n" }
+in_sums : text_output (plain Degree Sums) stops ≡ Known (record { status = Done; text = codes "graphite degree steps 0 calls 0\na 10 10 5\nb 10 10 4\nc 6 6 0\nend\n" })
 unfolding reading_of sums_line sums_report digits
 in_sums = refl

@@ -1,3 +1,5 @@
 pub mod Status
+pub mod Answer
+pub mod Journeys
 pub mod Output
 pub mod Call

@@ -1,12 +1,13 @@
 //! What is asked of a graph.
-ghost use Rattle.std.specs.Prelude.{◌≡◌, ◌<◌, ℕ, length, unwrap_or, [], IfOk, IfSome, IsTrue};
+ghost use Rattle.std.specs.Prelude.{◌≡◌, ◌<◌, ℕ, length, IfOk, IfSome};
 ghost use Rattle.graphite_text.specs.Graph.{PlainGraph};
 ghost use Rattle.graphite_words.specs.Query.{plain_query};
-ghost use Rattle.graphite_words.specs.Table.{row_of};
-ghost use Rattle.graphite_top.specs.Output.{asked_by, asked_of, in_time, key_of, source_of, CanBeRefused, IsAskedOf};
+ghost use Rattle.graphite_top.specs.Output.{asked_by, asked_of, in_time, in_window, is_told_in_time, key_of, path_asked, source_of, is_short, AsksJourneys, CanBeRefused, IsAskedBy, IsAskedOf, IsPath, IsRefused};
 
+use graphite_api::{Kind, PathQuery};
 use graphite_base::Bytes;
 use graphite_graph::Graph;
+use graphite_paths::FASTEST_WINDOW;
 use graphite_snap::SnapQuery;
 use graphite_time::NoMemory;
 use graphite_words::{Command, Query, Report};
@@ -19,36 +20,86 @@ pub enum Asked {
     Text,
     /// A program of snapshots.
     Snap(SnapQuery),
-    /// To start from a vertex that the graph does not have.
+    /// A program of journeys.
+    Path(PathQuery),
+    /// To start from or to lead to a vertex that the graph does not have.
     NoVertex,
-    /// To tell of an instant that is not below the graph's horizon.
+    /// To tell of an instant that is not below the graph's horizon, or to look at a window that begins or ends after it.
     NoInstant,
+    /// To look at a window that holds no instant, or too many for the fastest journeys.
+    NoWindow,
 }
 
 /// What a query asks of a graph. Refused only where memory is short.
 pub fn asked_of(alloc: Global, query: &Query, graph: &Graph<'_>) -> Result<Asked, NoMemory>
     ensures asked { IfOk result (λ asked. asked ≡ asked_of (plain_query query.now) graph.now) }
     ensures in_range { IfOk result (IsAskedOf graph.now) }
-    ensures no_vertex { IfOk result (λ asked. asked ≡ Asked.NoVertex → CanBeRefused (Some (plain_query query.now))) }
-    ensures no_instant { IfOk result (λ asked. asked ≡ Asked.NoInstant → CanBeRefused (Some (plain_query query.now))) }
+    ensures refused { IfOk result (λ asked. IsRefused asked → CanBeRefused (Some (plain_query query.now))) }
+    ensures path { IfOk result (λ asked. IsPath asked → AsksJourneys (plain_query query.now)) }
 {
-    let asked = asked_by(alloc, query.command, source_of(query, graph), key_of(query))?;
+    let until = query.until.unwrap_or(graph.horizon());
+    let window = Window {
+        from: query.from,
+        until,
+    };
+    let source = source_of(query, graph);
+    let asked = asked_by(alloc, query.command, source, key_of(query), window)?;
     Ok(in_time(query.report, graph.horizon(), asked))
 }
 
-/// What is asked, where the instant that is to be told of is below the horizon.
+/// Whether the instant that is to be told of, where there is one, is below the horizon.
+fn is_told_in_time(report: Report, horizon: u64) -> bool
+    ensures { result ≡ is_told_in_time report horizon }
+{
+    match report {
+        Report::At(t) => t < horizon,
+        Report::Intervals | Report::Sums => true,
+    }
+}
+
+/// What is asked, where all instants that are given are below the horizon; a window may end at it.
 fn in_time(report: Report, horizon: u64, asked: Asked) -> Asked
     ensures { result ≡ in_time report horizon asked }
 {
-    match (report, asked) {
-        (Report::At(t), Asked::Snap(program)) => {
-            if t < horizon {
+    let told = is_told_in_time(report, horizon);
+    match asked {
+        Asked::Snap(program) => {
+            if told {
                 Asked::Snap(program)
             } else {
                 Asked::NoInstant
             }
         }
-        (_, asked) => asked,
+        Asked::Path(query) => {
+            if told && query.from < horizon && query.until <= horizon {
+                in_window(query)
+            } else {
+                Asked::NoInstant
+            }
+        }
+        asked => asked,
+    }
+}
+
+/// Whether a window of so many instants is short enough: only that of the fastest journeys has a limit.
+fn is_short(kind: Kind, length: u64) -> bool
+    ensures { result ≡ is_short kind length }
+{
+    match kind {
+        Kind::Fastest => length <= FASTEST_WINDOW,
+        Kind::Reach | Kind::Earliest | Kind::Cheapest | Kind::Latest => true,
+    }
+}
+
+/// A question about journeys, where its window holds an instant and is short enough.
+fn in_window(query: PathQuery) -> Asked
+    ensures { result ≡ in_window query }
+{
+    let length = query.until.saturating_sub(query.from);
+    if query.from < query.until && is_short(query.kind, length) {
+        Asked::Path(query)
+    } else {
+        Asked::NoWindow
     }
 }
 
@@ -71,18 +122,40 @@ fn source_of(query: &Query, graph: &Graph<'_>) -> Option<u32>
     graph.find_vertex(name.as_slice())
 }
 
-/// What a command asks, where the source that it was given has this number, or names no vertex, and
-/// where it was given this key.
+/// The instants from one on and before another.
+#[derive(Clone, Copy)]
+struct Window {
+    from: u64,
+    until: u64,
+}
+
+/// A question of this kind about the journeys from a vertex within a window.
+fn path_asked(kind: Kind, source: Option<u32>, window: Window) -> Asked
+    ensures { result ≡ path_asked kind source window.from window.until }
+{
+    match source {
+        Some(vertex) => Asked::Path(PathQuery {
+            kind,
+            vertex,
+            from: window.from,
+            until: window.until,
+        }),
+        None => Asked::NoVertex,
+    }
+}
+
+/// What a command asks, where the vertex that it was given has this number, or is not one of the graph, and
+/// where it was given this key and this window.
 fn asked_by(
     alloc: Global,
     command: Command,
     source: Option<u32>,
     key: &[u8],
+    window: Window,
 ) -> Result<Asked, NoMemory>
-    ensures asked { IfOk result (λ asked. asked ≡ asked_by command source key.now) }
+    ensures asked { IfOk result (λ asked. asked ≡ asked_by command source key.now window.from window.until) }
     ensures in_range { (graph : PlainGraph) → IfSome source (λ v. v < length graph.vertices)
-        → IfOk result (IsAskedOf graph) }
-    ensures no_vertex { IfOk result (λ asked. asked ≡ Asked.NoVertex → IsTrue (row_of command).wants_source) }
+        → IfOk result (IsAskedBy graph) }
 {
     Ok(match command {
         Command::Degree => Asked::Snap(SnapQuery::Degree),
@@ -97,6 +170,11 @@ fn asked_by(
             None => Asked::NoVertex,
         },
         Command::Rank => Asked::Snap(SnapQuery::Rank),
+        Command::Reach => path_asked(Kind::Reach, source, window),
+        Command::Earliest => path_asked(Kind::Earliest, source, window),
+        Command::Cheapest => path_asked(Kind::Cheapest, source, window),
+        Command::Fastest => path_asked(Kind::Fastest, source, window),
+        Command::Latest => path_asked(Kind::Latest, source, window),
         Command::Show => Asked::Text,
     })
 }

@@ -5,16 +5,20 @@ ghost use Rattle.graphite_base.specs.Causes.{Rose};
 ghost use Rattle.graphite_base.specs.Known.{IsEmptied};
 ghost use Rattle.graphite_text.specs.Canonical.{canonical_text};
 ghost use Rattle.graphite_text.specs.Reading.{text_limit};
-ghost use Rattle.graphite_top.specs.Output.{graph_answer, output_of, query_answer, report_answer, text_answer, steps_of, text_refusal, usual_steps, words_refusal, CanBeRefused};
+ghost use Rattle.graphite_top.specs.Answer.{report_answer, text_refusal, words_refusal};
+ghost use Rattle.graphite_top.specs.Output.{graph_output, output_of, query_output, text_output, steps_of, usual_steps, CanBeRefused, HasBudget};
 ghost use Rattle.graphite_words.specs.Query.{number_given, plain_query};
 ghost use Rattle.graphite_words.specs.Table.{row_of};
 ghost use Rattle.graphite_words.specs.Words.{query_of};
-ghost use Rattle.graphite_top.specs.Call.{Answers, Writes, Gives, IsWritten, IsReadThrough};
+ghost use Rattle.graphite_top.specs.Call.{Answers, Writes, WritesThis, Gives, IsWritten, IsReadThrough};
 
 use crate::Status;
 use crate::asked::{Asked, asked_of};
-use crate::snap::{Telling, write_snap};
-use graphite_base::{ReadText, Sink, Source, TEXT_LIMIT, push_number, read_text, write_all};
+use crate::path::write_path;
+use crate::snap::write_snap;
+use crate::told::Telling;
+use crate::write::write;
+use graphite_base::{ReadText, Sink, Source, TEXT_LIMIT, push_number, read_text};
 use graphite_graph::{Graph, LoadFault, load};
 use graphite_text::LENGTH_RULE;
 use graphite_time::NoMemory;
@@ -30,24 +34,26 @@ pub fn run<S: Source, K: Sink>(
     source: &mut S,
     sink: &mut K,
 ) -> Status
-    // The status and the text of the answer, or a prefix of that text.
+    // The status and the text of the answer, or a prefix of that text. For a program of journeys there are best values
+    // such that the text is their report, or the values are not settled within the supersteps allowed.
     ensures answer { IfSome (output_of (map string_bytes words.now) (S.left source.old))
-        (λ answer. Answers result answer (K.written sink.old) (K.written sink.new)) }
+        (λ output. Answers result output (K.written sink.old) (K.written sink.new)) }
 
     // Without a fault, and with memory, the answer is given whole.
     ensures complete { ¬ Rose (S.faults source.old) (S.faults source.new)
         → ¬ Rose (K.faults sink.old) (K.faults sink.new)
         → result ≢ Status.NoMemory
         → IfSome (output_of (map string_bytes words.now) (S.left source.old))
-        (λ answer. Gives result answer (K.written sink.old) (K.written sink.new)) }
+        (λ output. Gives result output (K.written sink.old) (K.written sink.new)) }
 
-    // When each fault comes.
+    // When each fault comes. Without a number of supersteps in the words no budget ends.
     ensures read_fault { result ≡ Status.ReadFault
         → IsSome (query_of (map string_bytes words.now)) × Rose (S.faults source.old) (S.faults source.new) }
     ensures nothing_written { result ≡ Status.ReadFault → Keeps (K.written sink.old) (K.written sink.new) }
     ensures write_fault { result ≡ Status.WriteFault → Rose (K.faults sink.old) (K.faults sink.new) }
     ensures words_refused { result ≡ Status.WordsRefused → query_of (map string_bytes words.now) ≡ None }
     ensures query_refused { result ≡ Status.QueryRefused → CanBeRefused (query_of (map string_bytes words.now)) }
+    ensures budget { result ≡ Status.Budget → HasBudget (query_of (map string_bytes words.now)) }
 
     // What becomes of the source.
     ensures untouched { query_of (map string_bytes words.now) ≡ None → source.new ≡ source.old }
@@ -70,18 +76,19 @@ fn answer_source<S: Source, K: Sink>(
     source: &mut S,
     sink: &mut K,
 ) -> Status
-    ensures answer { IfSome (query_answer (Some (plain_query query.now)) (S.left source.old))
-        (λ answer. Answers result answer (K.written sink.old) (K.written sink.new)) }
+    ensures answer { IfSome (query_output (Some (plain_query query.now)) (S.left source.old))
+        (λ output. Answers result output (K.written sink.old) (K.written sink.new)) }
     ensures complete { ¬ Rose (S.faults source.old) (S.faults source.new)
         → ¬ Rose (K.faults sink.old) (K.faults sink.new)
         → result ≢ Status.NoMemory
-        → IfSome (query_answer (Some (plain_query query.now)) (S.left source.old))
-        (λ answer. Gives result answer (K.written sink.old) (K.written sink.new)) }
+        → IfSome (query_output (Some (plain_query query.now)) (S.left source.old))
+        (λ output. Gives result output (K.written sink.old) (K.written sink.new)) }
     ensures read_fault { result ≡ Status.ReadFault → Rose (S.faults source.old) (S.faults source.new) }
     ensures nothing_written { result ≡ Status.ReadFault → Keeps (K.written sink.old) (K.written sink.new) }
     ensures write_fault { result ≡ Status.WriteFault → Rose (K.faults sink.old) (K.faults sink.new) }
     ensures words_accepted { result ≢ Status.WordsRefused }
     ensures query_refused { result ≡ Status.QueryRefused → CanBeRefused (Some (plain_query query.now)) }
+    ensures budget { result ≡ Status.Budget → HasBudget (Some (plain_query query.now)) }
     ensures emptied { IsReadThrough result (S.left source.old) (S.left source.new) }
     ensures later { (S.faults source.old ≤ S.faults source.new) × (K.faults sink.old ≤ K.faults sink.new) }
 {
@@ -95,8 +102,9 @@ fn answer_source<S: Source, K: Sink>(
 
 /// Writes the answer to a text.
 fn answer_text<K: Sink>(alloc: Global, query: &Query, text: &[u8], sink: &mut K) -> Status
-    ensures writes { Writes result (text_answer (plain_query query.now) text.now) (K.written sink.old) (K.written sink.new) (K.faults sink.old) (K.faults sink.new) }
+    ensures writes { Writes result (text_output (plain_query query.now) text.now) (K.written sink.old) (K.written sink.new) (K.faults sink.old) (K.faults sink.new) }
     ensures query_refused { result ≡ Status.QueryRefused → CanBeRefused (Some (plain_query query.now)) }
+    ensures budget { result ≡ Status.Budget → HasBudget (Some (plain_query query.now)) }
     ensures later { K.faults sink.old ≤ K.faults sink.new }
 {
     match load(alloc, text) {
@@ -108,15 +116,18 @@ fn answer_text<K: Sink>(alloc: Global, query: &Query, text: &[u8], sink: &mut K)
 
 /// Writes the answer to a query for a graph.
 fn report<K: Sink>(alloc: Global, query: &Query, graph: &Graph<'_>, sink: &mut K) -> Status
-    ensures writes { Writes result (graph_answer (plain_query query.now) graph.now) (K.written sink.old) (K.written sink.new) (K.faults sink.old) (K.faults sink.new) }
+    ensures writes { Writes result (graph_output (plain_query query.now) graph.now) (K.written sink.old) (K.written sink.new) (K.faults sink.old) (K.faults sink.new) }
     ensures query_refused { result ≡ Status.QueryRefused → CanBeRefused (Some (plain_query query.now)) }
+    ensures budget { result ≡ Status.Budget → HasBudget (Some (plain_query query.now)) }
     ensures later { K.faults sink.old ≤ K.faults sink.new }
 {
     match asked_of(alloc, query, graph) {
         Ok(Asked::Text) => write_shown(alloc, graph, sink),
         Ok(Asked::Snap(program)) => write_snap(alloc, graph, &program, telling(query, graph), sink),
+        Ok(Asked::Path(path)) => write_path(alloc, graph, &path, telling(query, graph), sink),
         Ok(Asked::NoVertex) => write(sink, b"refused query 1\n", Status::QueryRefused),
         Ok(Asked::NoInstant) => write(sink, b"refused query 2\n", Status::QueryRefused),
+        Ok(Asked::NoWindow) => write(sink, b"refused query 3\n", Status::QueryRefused),
         Err(_) => Status::NoMemory,
     }
 }
@@ -148,7 +159,7 @@ fn usual_steps(row: Row, graph: &Graph<'_>) -> Steps
 
 /// Writes the canonical text of a graph.
 fn write_shown<K: Sink>(alloc: Global, graph: &Graph<'_>, sink: &mut K) -> Status
-    ensures writes { Writes result (report_answer (canonical_text graph.now)) (K.written sink.old) (K.written sink.new) (K.faults sink.old) (K.faults sink.new) }
+    ensures writes { WritesThis result (report_answer (canonical_text graph.now)) (K.written sink.old) (K.written sink.new) (K.faults sink.old) (K.faults sink.new) }
     ensures later { K.faults sink.old ≤ K.faults sink.new }
 {
     let mut text = Vec::new(alloc);
@@ -172,23 +183,11 @@ fn refusal_of(alloc: Global, line: u32, rule: u8) -> Result<Vec<u8>, NoMemory>
 
 /// Writes the refusal of a text.
 fn refuse_text<K: Sink>(alloc: Global, line: u32, rule: u8, sink: &mut K) -> Status
-    ensures writes { Writes result (text_refusal line rule) (K.written sink.old) (K.written sink.new) (K.faults sink.old) (K.faults sink.new) }
+    ensures writes { WritesThis result (text_refusal line rule) (K.written sink.old) (K.written sink.new) (K.faults sink.old) (K.faults sink.new) }
     ensures later { K.faults sink.old ≤ K.faults sink.new }
 {
     match refusal_of(alloc, line, rule) {
         Ok(text) => write(sink, &text, Status::TextRefused),
         Err(_) => Status::NoMemory,
-    }
-}
-
-/// Writes a whole text that comes with a status.
-fn write<K: Sink>(sink: &mut K, text: &[u8], status: Status) -> Status
-    requires { IsWritten status }
-    ensures writes { Writes result (record { status = status; text = text.now }) (K.written sink.old) (K.written sink.new) (K.faults sink.old) (K.faults sink.new) }
-    ensures later { K.faults sink.old ≤ K.faults sink.new }
-{
-    match write_all(sink, text) {
-        Ok(()) => status,
-        Err(_) => Status::WriteFault,
     }
 }

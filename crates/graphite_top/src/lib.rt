@@ -3,11 +3,18 @@
 
 mod asked;
 mod call;
+mod laws;
+mod path;
 mod snap;
 mod status;
+mod told;
+mod write;
 
 pub use call::run;
+pub use laws::an_answer_is_one;
 pub use status::Status;
 
+#[cfg(test)]
+mod path_tests;
 #[cfg(test)]
 mod tests;

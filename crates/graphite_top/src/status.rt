@@ -10,9 +10,11 @@ pub enum Status {
     TextRefused,
     /// The words are no command; a refusal was written, and the source was not touched.
     WordsRefused,
-    /// The text was accepted, and its graph has not the vertex that the words name, or ends before the instant
-    /// that they give; a refusal was written.
+    /// The text was accepted, and its graph has not the vertex that the words name, or ends before an instant
+    /// that they give, or the window that they give holds no instant; a refusal was written.
     QueryRefused,
+    /// The values of a program of journeys are not settled within the supersteps allowed; a refusal was written.
+    Budget,
     /// A read failed; nothing was written.
     ReadFault,
     /// A write failed; a prefix of what would have come was written.
@@ -33,6 +35,7 @@ impl Status {
             Status::TextRefused => 1,
             Status::WordsRefused => 2,
             Status::QueryRefused => 3,
+            Status::Budget => 4,
             Status::ReadFault => 5,
             Status::WriteFault => 6,
             Status::NoMemory => 7,

@@ -10,7 +10,8 @@ use std::process::Abort;
 use std::test::Fail;
 
 /// Three vertices, of which one lives shorter, and two edges.
-const STOPS: &[u8] = b"graph 1 10\nv a 0 10\nv b 0 10\nv c 2 8\ne ab a b 0 5\ne bc b c 3 7\nend\n";
+pub(crate) const STOPS: &[u8] =
+    b"graph 1 10\nv a 0 10\nv b 0 10\nv c 2 8\ne ab a b 0 5\ne bc b c 3 7\nend\n";
 
 const STOPS_REPORT: &[u8] =
     b"graphite degree steps 0 calls 0\na 0 5 1\na 5 10 0\nb 0 3 0\nb 3 7 1\nb 7 10 0\nc 2 8 0\nend\n";
@@ -28,7 +29,7 @@ fn words_of(alloc: Global, words: &[&str]) -> Result<Vec<String>, AllocError> {
 }
 
 /// Runs words on a text, and compares what it writes.
-fn expect_run(
+pub(crate) fn expect_run(
     rt: &impl Abort,
     alloc: Global,
     words: &[&str],
@@ -340,7 +341,7 @@ fn words_that_are_refused(rt: HostRuntime) -> Result<(), Fail> {
         &["bfs", "--source", "-"],
         &["bfs", "--source", "a", "--source", "b"],
         &["degree", "--report", "sums", "--at", "1"],
-        &["earliest", "--source", "a"],
+        &["earliest", "--source", "a", "--path", "c"],
     ];
     for list in lists {
         let words = words_of(alloc, list)?;
@@ -459,6 +460,7 @@ fn exit_codes(rt: HostRuntime) {
         (Status::TextRefused, 1),
         (Status::WordsRefused, 2),
         (Status::QueryRefused, 3),
+        (Status::Budget, 4),
         (Status::ReadFault, 5),
         (Status::WriteFault, 6),
         (Status::NoMemory, 7),
