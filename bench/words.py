@@ -5,9 +5,12 @@
 
 N lists of words are drawn: a program's word or another one, and then options and values, right and wrong, in both
 forms and in any order. Both programs are given them with the same small text. Prints each list that is answered
-differently, and how many were accepted; the exit code is 0 where all answers are the same.
+differently, and how many ended with each exit code; the exit code is 0 where all answers are the same. The program is
+bin/graphite where no path is given. The other one may know more (reports of journeys step by step): such words are not
+drawn.
 """
 import argparse
+import collections
 import os
 import random
 import subprocess
@@ -15,9 +18,9 @@ import sys
 
 TOP = os.path.dirname(os.path.dirname(os.path.abspath(__file__)))
 
-TEXT = b'''graph 1 10
+TEXT = b'''graph 1 5000
 v a 0 10
-v b 0 10
+v b 0 5000
 v c 2 8
 v -x 1 4
 e ab a b 0 5
@@ -25,30 +28,48 @@ e bc b c 3 7
 pv a load 0 4 7
 pv b load 2 6 3
 pe ab cost 1 3 4
+pe bc time 5 7 2
 end
 '''
 
-PROGRAMS = ['degree', 'bfs', 'components', 'max', 'distance', 'rank', 'show']
+SNAPSHOTS = ['degree', 'bfs', 'components', 'max', 'distance', 'rank']
+JOURNEYS = ['reach', 'earliest', 'cheapest', 'fastest', 'latest']
+PROGRAMS = SNAPSHOTS + JOURNEYS + ['show']
+WANTED = {'max': ['key'], **{program: ['source'] for program in ['bfs', 'distance'] + JOURNEYS},
+          'fastest': ['source', 'until'], 'latest': ['target']}
 OTHERS = ['', 'Degree', 'bf', 'help', '--help', '-h', '-', '--', 'a', '--version']
 VALUES = {
     'source': ['a', 'b', '-x', 'z', '', '-', '--', '--steps'],
+    'target': ['c', 'b', 'a', '-x', 'z', '', '-', 'sink'],
     'key': ['load', 'none', '', '-', 'cost'],
-    'steps': ['1', '2', '3', '30', '0', '01', '2097152', '2097153', '-1', '+1', '', '1 ', 'a', '99999999999999999999'],
-    'report': ['intervals', 'sums', 'Intervals', 'paths', '', 'sum'],
-    'at': ['0', '3', '9', '10', '11', '17592186044416', '17592186044417', '03', '', '-3', '18446744073709551616'],
+    'from': ['0', '2', '4', '9', '904', '5000', '17592186044416', '17592186044417', '01', '', '-1', 'a'],
+    'until': ['10', '5', '4', '1', '0', '4096', '4097', '5000', '5001', '17592186044416', '17592186044417', '010', '', '+5'],
+    'steps': ['4', '2', '3', '1', '30', '0', '01', '2097152', '2097153', '-1', '+1', '', '1 ', 'a', '99999999999999999999'],
+    'report': ['sums', 'intervals', 'sums', 'Intervals', 'paths', '', 'sum'],
+    'at': ['0', '3', '9', '4999', '5000', '17592186044416', '17592186044417', '03', '', '-3', '18446744073709551616'],
 }
-STRAYS = ['extra', '-', '--', '--help', '-h', '-V', '--stepsx', '--step', '--source', '--at', '-at', '--=3', '--from', '--until=3', '=']
+STRAYS = ['extra', '-', '--', '--help', '-h', '-V', '--stepsx', '--step', '--source', '--at', '-at', '--=3', '--from',
+          '--until=3', '=']
+
+
+def draw_value(draw, program, option):
+    good = draw.random() < 0.8
+    value = VALUES[option][0 if good and draw.random() < 0.5 else draw.randrange(3 if good else len(VALUES[option]))]
+    return 'path' if value == 'paths' and program in JOURNEYS else value
 
 
 def draw_words(draw):
-    words = [draw.choice(PROGRAMS if draw.random() < 0.9 else OTHERS)] if draw.random() < 0.97 else []
-    wanted = {'bfs': ['source'], 'distance': ['source'], 'max': ['key']}.get(words[0] if words else '', [])
-    options = [o for o in wanted if draw.random() < 0.9]
-    options += [draw.choice(list(VALUES)) for _ in range(draw.choice([0, 0, 1, 1, 2, 3]))]
+    program = draw.choice(PROGRAMS if draw.random() < 0.9 else OTHERS)
+    words = [program] if draw.random() < 0.97 else []
+    options = [o for o in WANTED.get(program, []) if draw.random() < 0.9]
+    fitting = [draw.choice(['report', 'at']), 'steps'] + (['from'] if program in JOURNEYS else [])
+    fitting += ['until'] if program in JOURNEYS and 'until' not in options else []
+    options += draw.sample(fitting, draw.randrange(len(fitting) + 1))
+    # now and then one that does not fit, or that is there already
+    options += [draw.choice(list(VALUES)) for _ in range(draw.choice([0, 0, 0, 1]))]
     draw.shuffle(options)
     for option in options:
-        good = draw.random() < 0.7
-        value = VALUES[option][0 if good and draw.random() < 0.5 else draw.randrange(3 if good else len(VALUES[option]))]
+        value = draw_value(draw, program, option)
         words += ['--%s=%s' % (option, value)] if draw.random() < 0.4 else ['--' + option, value]
     if draw.random() < 0.12:
         words.insert(draw.randrange(len(words) + 1), draw.choice(STRAYS))
@@ -62,21 +83,22 @@ def answer(program, words):
 
 def main():
     ask = argparse.ArgumentParser(description='compares the answers of two programs to lists of words')
-    ask.add_argument('--program', default=os.path.join(TOP, 'crates', 'graphite', 'out', 'graphite'))
+    ask.add_argument('--program', default=os.path.join(TOP, 'bin', 'graphite'))
     ask.add_argument('--peer', required=True)
     ask.add_argument('--lists', type=int, default=1000)
     ask.add_argument('--seed', type=int, default=1)
     args = ask.parse_args()
     draw = random.Random(args.seed)
-    same = accepted = 0
+    same, codes = 0, collections.Counter()
     for _ in range(args.lists):
         words = draw_words(draw)
         own, other = answer(args.program, words), answer(args.peer, words)
         same += own == other
-        accepted += own[0] == 0
+        codes[own[0]] += 1
         if own != other:
             print('DIFFERENT: %r\n  %r\n  %r' % (words, own, other))
-    print('%d lists of words, %d answered the same, %d of them with a report' % (args.lists, same, accepted))
+    told = ', '.join('%d with exit code %d' % (codes[code], code) for code in sorted(codes))
+    print('%d lists of words, %d answered the same; %s' % (args.lists, same, told))
     return 0 if same == args.lists else 1
 
 
