@@ -4,7 +4,6 @@ use Rattle.std.proofs.lemmas.Bool.{and_parts, leb-true, ltb-true}
 use Rattle.graphite_text.specs.Graph.{PlainGraph}
 use Rattle.graphite_api.specs.declared.kind.Kind.{Kind}
 use Rattle.graphite_api.specs.declared.kind.Kind.TheVariants as kind
-use Rattle.graphite_paths.specs.declared.TheConstants.{FASTEST_WINDOW}
 use Rattle.graphite_graph.specs.Ends.{lifespan_count}
 use Rattle.graphite_snap.specs.declared.query.SnapQuery.{SnapQuery}
 use Rattle.graphite_words.specs.declared.table.Command.{Command}
@@ -29,9 +28,9 @@ no_path : (told : Bool) (program : SnapQuery) → IsPath (if told then Snap prog
 no_path true program path = path
 no_path false program path = path
 
-short_window : (k : Kind) (from until : ℕ) → is_short k (until - from) ≡ true → k ≡ kind.Fastest → until ≤ from + FASTEST_WINDOW
+short_window : (k : Kind) (from until : ℕ) → is_short k (until - from) ≡ true → k ≡ kind.Fastest → until ≤ from + 4096
 short_window k from until short fastest =
-    let fits : until - from ≤ FASTEST_WINDOW = leb-true (until - from) FASTEST_WINDOW (subst (λ x. is_short x (until - from) ≡ true) fastest short) in
+    let fits : until - from ≤ 4096 = leb-true (until - from) 4096 (subst (λ x. is_short x (until - from) ≡ true) fastest short) in
     omega (arith, fits)
 
 -- what is asked of a graph fits it where it is in time

@@ -15,6 +15,7 @@ use Rattle.graphite_api.specs.declared.path_query.PathQuery.{PathQuery}
 use Rattle.graphite_api.specs.Hop.{Hop}
 use Rattle.graphite_api.specs.Journey.{IsAsGood, IsBestOverAll, IsValueWithin}
 use Rattle.graphite_api.proofs.BestLemmas.{IsBest-one}
+use Rattle.graphite_graph.specs.Ends.{lifespan_count}
 use Rattle.graphite_hops.specs.Hops.{IsHopOf}
 use Rattle.graphite_loop.specs.Journeys.{vertex_value}
 use Rattle.graphite_paths.specs.Answer.{IsFirstSettled, AreOnLives}
@@ -79,8 +80,9 @@ report_of_path ask all made best on durations lasting first settled =
     )
 
 -- and so is the refusal, where the values are not settled
-pub refusal_of_path : (ask : JourneyAsk) → (IsSettled ask → ⊥) → IsJourneyAnswer ask (budget_refusal ask.steps)
-refusal_of_path ask unsettled = inr (unsettled, refl)
+pub refusal_of_path : (ask : JourneyAsk) → (IsSettled ask → ⊥) → (lifespan_count ask.graph + 1 ≤ ask.steps → ⊥) → IsJourneyAnswer ask (budget_refusal ask.steps)
+refusal_of_path ask unsettled not_more =
+    inr (record { unsettled = unsettled; few = ⊎_elim (λ (more : lifespan_count ask.graph < ask.steps). absurd (not_more (omega (arith, more)))) (λ le. le) (cases_lt (lifespan_count ask.graph) ask.steps) }, refl)
 
 -- ---- there is one answer
 
@@ -146,6 +148,6 @@ reports_are_one ask text other a b =
 
 pub journey_answer_is_one : (ask : JourneyAsk) (answer other : Answer) → IsJourneyAnswer ask answer → IsJourneyAnswer ask other → answer ≡ other
 journey_answer_is_one ask answer other (inl a) (inl b) = a.1.2 ∙ ap report_answer (reports_are_one ask a.1.0 b.1.0 a.1.1 b.1.1) ∙ sym b.1.2
-journey_answer_is_one ask answer other (inl a) (inr b) = absurd (b.0 a.0)
-journey_answer_is_one ask answer other (inr a) (inl b) = absurd (a.0 b.0)
+journey_answer_is_one ask answer other (inl a) (inr b) = absurd (b.0.unsettled a.0)
+journey_answer_is_one ask answer other (inr a) (inl b) = absurd (a.0.unsettled b.0)
 journey_answer_is_one ask answer other (inr a) (inr b) = a.1 ∙ sym b.1

@@ -13,7 +13,9 @@ use Rattle.graphite_words.specs.declared.query.Report.{Report}
 use Rattle.graphite_words.specs.declared.query.Report.TheVariants.{Intervals, Sums, At}
 use Rattle.graphite_words.specs.Words.{PlainQuery}
 use Rattle.graphite_top.specs.declared.status.Status.TheVariants.{Done, TextRefused, QueryRefused}
-use Rattle.graphite_top.specs.Output.{Known, text_output}
+use Rattle.graphite_api.specs.declared.kind.Kind.TheVariants.{Fastest}
+use Rattle.graphite_top.specs.declared.asked.Asked.TheVariants.{NoWindow, Path}
+use Rattle.graphite_top.specs.Output.{Known, in_window, text_output}
 
 -- a query for a program without options, for one with a source, with a key, and with a number of supersteps
 abbrev plain : Command → Report → PlainQuery
@@ -93,3 +95,13 @@ at_the_horizon = refl
 in_sums : text_output (plain Degree Sums) stops ≡ Known (record { status = Done; text = codes "graphite degree steps 0 calls 0\na 10 10 5\nb 10 10 4\nc 6 6 0\nend\n" })
 unfolding reading_of sums_line sums_report digits
 in_sums = refl
+
+-- windows of the fastest journeys: of 4,096 instants, of one more, and of none
+longest_window : in_window (record { kind = Fastest; vertex = 0; from = 1; until = 4097 }) ≡ Path (record { kind = Fastest; vertex = 0; from = 1; until = 4097 })
+longest_window = refl
+
+too_long : in_window (record { kind = Fastest; vertex = 0; from = 0; until = 4097 }) ≡ NoWindow
+too_long = refl
+
+no_window : in_window (record { kind = Fastest; vertex = 0; from = 5; until = 5 }) ≡ NoWindow
+no_window = refl

@@ -1,10 +1,11 @@
 -- The answer to a question about the journeys of a graph: a report of best values, which are told by what they are and
 -- not by how they are found.
-use Rattle.std.specs.Prelude.{◌≡◌, ◌⊎◌, ℕ, if◌then◌else◌, List, length, Option, Some, None}
+use Rattle.std.specs.Prelude.{◌≡◌, ◌⊎◌, ℕ, ◌≤◌, if◌then◌else◌, List, length, Option, Some, None}
 use Rattle.graphite_text.specs.Graph.{PlainGraph, vertex_is_alive}
 use Rattle.graphite_api.specs.declared.duration.Duration.{Duration}
 use Rattle.graphite_api.specs.declared.path_query.PathQuery.{PathQuery}
 use Rattle.graphite_api.specs.Journey.{IsBestOverAll}
+use Rattle.graphite_graph.specs.Ends.{lifespan_count}
 use Rattle.graphite_hops.specs.Hops.{IsHopOf}
 use Rattle.graphite_paths.specs.Answer.{IsSettledWithin, IsFirstSettled}
 use Rattle.graphite_paths.specs.Durations.{AreDurationsOf}
@@ -42,8 +43,13 @@ pub record IsJourneyReport (ask : JourneyAsk) (text : List ℕ) : Type 0 where
   pub first : IsFirstSettled (vertex_is_alive ask.graph) (IsHopOf ask.graph) ask.query ask.steps made
   pub is : text ≡ report_text ask.report (path_heading ask.word made) ask.graph (printed_on ask.graph best) (durations_in durations)
 
+-- Within the supersteps allowed the values are not settled. The question then allows no more of them than the vertices have lifespans.
+pub record IsOverBudget (ask : JourneyAsk) : Type 0 where
+  pub unsettled : IsSettled ask → ⊥
+  pub few : ask.steps ≤ lifespan_count ask.graph
+
 -- The answer is that report where the values are settled, and else the refusal of the budget.
 abbrev pub IsJourneyAnswer : JourneyAsk → Answer → Type 0
 IsJourneyAnswer ask answer =
     (IsSettled ask × ((text : List ℕ) × IsJourneyReport ask text × (answer ≡ report_answer text)))
-    ⊎ ((IsSettled ask → ⊥) × (answer ≡ budget_refusal ask.steps))
+    ⊎ (IsOverBudget ask × (answer ≡ budget_refusal ask.steps))

@@ -7,7 +7,6 @@ use Rattle.graphite_graph.specs.Ends.{lifespan_count}
 use Rattle.graphite_api.specs.declared.kind.Kind.{Kind}
 use Rattle.graphite_api.specs.declared.kind.Kind.TheVariants as kind
 use Rattle.graphite_api.specs.declared.path_query.PathQuery.{PathQuery}
-use Rattle.graphite_paths.specs.declared.TheConstants.{FASTEST_WINDOW}
 use Rattle.graphite_snap.specs.declared.query.SnapQuery.TheVariants as snap
 use Rattle.graphite_snap.specs.Description.{Meaning}
 use Rattle.graphite_snap.specs.Answers.{meaning_of, IsAsked}
@@ -68,7 +67,7 @@ pub record IsPathOf (graph : PlainGraph) (query : PathQuery) : Type 0 where
   pub vertex : query.vertex < length graph.vertices
   pub until : query.until ≤ graph.horizon
   pub some : query.from < query.until
-  pub short : query.kind ≡ kind.Fastest → query.until ≤ query.from + FASTEST_WINDOW
+  pub short : query.kind ≡ kind.Fastest → query.until ≤ query.from + 4096
 
 -- a vertex that a program starts from or leads to is one of the graph
 abbrev pub IsAskedBy : PlainGraph → Asked → Type 0
@@ -99,9 +98,9 @@ abbrev pub is_told_in_time : Report → (horizon : ℕ) → Bool
 is_told_in_time (At t) horizon = nat_lt t horizon
 is_told_in_time report horizon = true
 
--- whether a window of so many instants is short enough: only that of the fastest journeys has a limit
+-- whether a window of so many instants is short enough: only that of the fastest journeys has a limit, of 4,096 instants
 abbrev pub is_short : Kind → (length : ℕ) → Bool
-is_short kind.Fastest length = nat_le length FASTEST_WINDOW
+is_short kind.Fastest length = nat_le length 4096
 is_short kind.Reach length = true
 is_short kind.Earliest length = true
 is_short kind.Cheapest length = true

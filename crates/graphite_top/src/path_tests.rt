@@ -105,23 +105,31 @@ fn starts_and_durations(rt: HostRuntime) -> Result<(), Fail> {
     Ok(())
 }
 
-/// A window of more instants than the fastest journeys may have, on a graph that is long enough for it.
+/// Windows of as many instants as the fastest journeys may have, and of one more, on a graph that is long enough.
 #[test]
-fn windows_that_are_too_long(rt: HostRuntime) -> Result<(), Fail> {
-    let cases: [(&[&str], &[u8], &[u8]); 2] = [
+fn windows_at_their_limit(rt: HostRuntime) -> Result<(), Fail> {
+    let cases: [(&[&str], &[u8], Status, &[u8]); 3] = [
         (
             &["fastest", "--source", "a", "--until", "5000"],
             STOPS,
+            Status::QueryRefused,
             b"refused query 2\n",
         ),
         (
             &["fastest", "--source", "central", "--until", "4097"],
             TIMETABLE,
+            Status::QueryRefused,
             b"refused query 3\n",
         ),
+        (
+            &["fastest", "--source", "central", "--until", "4097", "--from", "1", "--at", "4096"],
+            TIMETABLE,
+            Status::Done,
+            b"graphite fastest steps 4\ncentral 4096\nmuseum none\nharbour none\nend\n",
+        ),
     ];
-    for (words, text, written) in cases {
-        expect_run(&rt, rt.alloc(), words, text, Status::QueryRefused, written)?;
+    for (words, text, status, written) in cases {
+        expect_run(&rt, rt.alloc(), words, text, status, written)?;
     }
     Ok(())
 }

@@ -19,5 +19,6 @@ pub returns-in-Err-Budget-clause-writes : goal.returns-in-Err-Budget-clause-writ
 returns-in-Err-Budget-clause-writes g c =
     let ask : JourneyAsk = record { graph = c.args.graph.now; query = c.args.query.now; report = c.args.telling.report; word = c.args.telling.word.now; steps = c.args.telling.steps.number } in
     Writes-journeys c.refuse_budget.result ask (budget_refusal ask.steps) _ _ _ _
-    (refusal_of_path ask (c.in-Err-Budget.ensures.budget (ap Err c.in-Err-Budget.field-0-is)))
+    (refusal_of_path ask (c.in-Err-Budget.ensures.budget (ap Err c.in-Err-Budget.field-0-is))
+    (λ enough. c.in-Err-Budget.ensures.enough enough (ap Err c.in-Err-Budget.field-0-is)))
     c.refuse_budget.ensures.writes
