@@ -1,4 +1,6 @@
 pub mod LineLemmas
 pub mod SumLemmas
 pub mod ThroughLemmas
+pub mod StepLemmas
+pub mod PathLemmas
 mod WorkedReports

@@ -21,7 +21,7 @@ use Rattle.graphite_report.specs.Report.{Heading, Values, same_value, run_line, 
 pub values_of : (all : List (List (Piece (Option ℕ)))) (v : ℕ) (pieces : List (Piece (Option ℕ))) → v < length all → pieces ≡ get_or all v pieces → value_at pieces ≡ values_in all v
 values_of all v pieces within is = ap value_at (is ∙ get_or_default all v pieces [] within)
 
-values_apart : TellsApart (λ (x : Option ℕ). x) same_value
+pub values_apart : TellsApart (λ (x : Option ℕ). x) same_value
 values_apart None None = (λ _. refl, λ _. refl)
 values_apart None (Some n) = (λ e. cc, λ e. cc)
 values_apart (Some m) None = (λ e. cc, λ e. cc)
@@ -36,12 +36,12 @@ vertex_lines-pieces name pieces horizon chain nothing =
 -- ---- the lines of one vertex
 
 -- what is read of a vertex by its number is what the graph says of it
-vertex_read : (vertex : Option PlainVertex) (name : List ℕ) → option_map (λ x. x.name) vertex ≡ Some name → (x : PlainVertex) × (vertex ≡ Some x) × (x.name ≡ name)
+pub vertex_read : (vertex : Option PlainVertex) (name : List ℕ) → option_map (λ x. x.name) vertex ≡ Some name → (x : PlainVertex) × (vertex ≡ Some x) × (x.name ≡ name)
 vertex_read None name at = cc
 vertex_read (Some x) name at = (x, refl, same_Some _ _ at)
 
 -- the vertices from a number on begin with that vertex
-vertices_from : (vertices : List PlainVertex) (v : ℕ) (vertex : PlainVertex) → slice_get vertices v ≡ Some vertex → drop v vertices ≡ vertex ∷ drop (v + 1) vertices
+pub vertices_from : (vertices : List PlainVertex) (v : ℕ) (vertex : PlainVertex) → slice_get vertices v ≡ Some vertex → drop v vertices ≡ vertex ∷ drop (v + 1) vertices
 vertices_from vertices v vertex at =
     let within = slice_get_within vertices v vertex at in
     drop_more vertices v vertex within ∙ ap (λ x. x ∷ drop (v + 1) vertices) (get_or_from_slice_get vertices v vertex vertex at)

@@ -74,3 +74,44 @@ Through-end old new buffer buffer' text more whole is grown through =
 pub Appends-sent : (old new next : Option (List ℕ)) (buffer buffer' text : List ℕ) → Sends new next buffer buffer' → buffer' ≡ [] → Through old new buffer [] text → Appends old next text
 Appends-sent old new next buffer buffer' text sends empty through =
     Appends-through old next text (subst (λ b. Through old next b [] text) empty (Through-send old new next buffer buffer' [] text sends through))
+
+-- ---- a part of the text that another writer wrote
+
+-- what it was to write, it wrote or left in the buffer
+pub Through-more : (old mid new : Option (List ℕ)) (buffer rest buffer' rest' text lines : List ℕ) → rest ≡ lines ++ rest' → Through mid new buffer' [] (buffer ++ lines) → Through old mid buffer rest text → Through old new buffer' rest' text
+Through-more old mid new buffer rest buffer' rest' text lines is (more, appended, split) (sent, appends, whole) = (
+  sent ++ more,
+  Appends-trans old mid new sent more appends appended,
+  ap (λ xs. xs ++ rest') (append_assoc sent more buffer' ∙ ap (λ xs. sent ++ xs) (sym (append-nil (more ++ buffer')) ∙ split) ∙ sym (append_assoc sent buffer lines))
+      ∙ append_assoc (sent ++ buffer) lines rest' ∙ ap (λ xs. (sent ++ buffer) ++ xs) (sym is) ∙ whole,
+)
+
+-- it stopped within what it was to write
+pub AppendsPrefix-within : (old mid new : Option (List ℕ)) (buffer rest rest' text lines : List ℕ) → rest ≡ lines ++ rest' → AppendsPrefix mid new (buffer ++ lines) → Through old mid buffer rest text → AppendsPrefix old new text
+AppendsPrefix-within old mid new buffer rest rest' text lines is (n, part) (sent, appends, whole) =
+    let bytes = buffer ++ lines in
+    let parts : take n bytes ++ drop n bytes ≡ bytes = take-append-drop n bytes in
+    let all : (sent ++ take n bytes) ++ (drop n bytes ++ rest') ≡ text =
+    append_assoc sent (take n bytes) (drop n bytes ++ rest')
+    ∙ ap (λ xs. sent ++ xs) (sym (append_assoc (take n bytes) (drop n bytes) rest') ∙ ap (λ xs. xs ++ rest') parts ∙ append_assoc buffer lines rest' ∙ ap (λ xs. buffer ++ xs) (sym is))
+    ∙ sym (append_assoc sent buffer rest) ∙ whole
+    in
+    prefix_of old new (sent ++ take n bytes) (drop n bytes ++ rest') text all (Appends-trans old mid new sent (take n bytes) appends part)
+
+-- the last bytes of the text are still to come
+pub Through-open : (old new : Option (List ℕ)) (buffer text more whole : List ℕ) → text ++ more ≡ whole → Through old new buffer [] text → Through old new buffer more whole
+Through-open old new buffer text more whole is (sent, appends, split) =
+    (sent, appends, ap (λ xs. xs ++ more) (sym (append-nil (sent ++ buffer)) ∙ split) ∙ is)
+
+-- they were written after what was in the buffer
+pub Appends-ended : (old mid new : Option (List ℕ)) (buffer more whole : List ℕ) → Appends mid new (buffer ++ more) → Through old mid buffer more whole → Appends old new whole
+Appends-ended old mid new buffer more whole appended (sent, appends, split) =
+    subst (Appends old new) (sym (append_assoc sent buffer more) ∙ split) (Appends-trans old mid new sent (buffer ++ more) appends appended)
+
+pub AppendsPrefix-ended : (old mid new : Option (List ℕ)) (buffer more whole : List ℕ) → AppendsPrefix mid new (buffer ++ more) → Through old mid buffer more whole → AppendsPrefix old new whole
+AppendsPrefix-ended old mid new buffer more whole prefix through =
+    AppendsPrefix-within old mid new buffer more [] whole more (sym (append-nil more)) prefix through
+
+-- the buffer holds the text, and nothing was sent yet
+pub Through-whole : (old : Option (List ℕ)) (buffer text : List ℕ) → buffer ≡ text → Through old old buffer [] text
+Through-whole old buffer text is = ([], Appends-none old, append-nil buffer ∙ is)

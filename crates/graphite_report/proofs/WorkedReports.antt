@@ -1,5 +1,5 @@
 -- The definitions on worked values: two vertices, of which one lives shorter, and three with durations.
-use Rattle.std.proofs.Common.{◌≡◌, ℕ, zero, suc, cond, [], ◌∷◌, Some, None, refl, nat_lt, nat_le, ◌&&◌}
+use Rattle.std.proofs.Common.{◌≡◌, ℕ, zero, suc, cond, List, [], ◌∷◌, Some, None, refl, nat_lt, nat_le, ◌&&◌}
 use Rattle.std.specs.Prelude.{codes}
 use Rattle.std.specs.Fmt.{digits}
 use Rattle.graphite_api.specs.declared.duration.Duration.{Duration}
@@ -7,7 +7,8 @@ use Rattle.graphite_part.specs.Runs.{runs_of}
 use Rattle.graphite_text.specs.Graph.{PlainGraph}
 use Rattle.graphite_text.specs.Reading.{Accepted, reading_of}
 use Rattle.graphite_report.specs.Given.{durations_in}
-use Rattle.graphite_report.specs.Report.{Heading, Values, vertex_lines, sums_line, intervals_report, instant_report, sums_report}
+use Rattle.graphite_witness.specs.declared.step.Step.{Step}
+use Rattle.graphite_report.specs.Report.{Heading, Values, vertex_lines, sums_line, intervals_report, instant_report, sums_report, path_lines, paths_report, one_path_report}
 
 -- the graph of the text
 abbrev pub two : PlainGraph
@@ -97,3 +98,58 @@ durations_of_one : intervals_report fastest three latest_starts (durations_in (S
     ≡ codes "graphite fastest steps 2\na 0 1 0\na 1 10 1\n= a 0 0 0\nb 0 1 none\nb 1 2 0\nb 2 10 1\nc 0 10 none\nend\n"
 unfolding intervals_report vertex_lines runs_of digits fastest at_once
 durations_of_one = refl
+
+-- ---- written journeys
+
+-- Three vertices over ten instants. At 2 x leads from a to b in one instant at the cost 4, and at 5 y from b to c in two
+-- instants at the cost 1.
+abbrev way : PlainGraph
+way = record {
+  horizon = 10;
+  vertices = record { name = codes "a"; life = record { a = 0; b = 10 } ∷ [] } ∷ record { name = codes "b"; life = record { a = 0; b = 10 } ∷ [] } ∷ record { name = codes "c"; life = record { a = 4; b = 10 } ∷ [] } ∷ [];
+  edges = record { name = codes "x"; from = 0; to = 1; life = record { a = 2; b = 3 } ∷ [] } ∷ record { name = codes "y"; from = 1; to = 2; life = record { a = 5; b = 6 } ∷ [] } ∷ [];
+  vertex_properties = [];
+  edge_properties = [];
+}
+
+-- the earliest arrivals from a
+abbrev arrivals : ℕ → Values
+arrivals zero t = cond (nat_lt t 10) (Some (Some 0)) None
+arrivals (suc zero) t = cond (nat_lt t 10) (Some (cond (nat_lt t 3) None (Some 3))) None
+arrivals (suc (suc v)) t = cond (nat_le 4 t && nat_lt t 10) (Some (cond (nat_lt t 7) None (Some 7))) None
+
+-- no step to a, one to b, and two to c; where there is no value, what stands here is not told
+abbrev way_steps : ℕ → ℕ → List Step
+way_steps zero t = []
+way_steps (suc zero) t = record { edge = 0; depart = 2; arrive = 3; cost = 4 } ∷ []
+way_steps (suc (suc v)) t = record { edge = 0; depart = 2; arrive = 3; cost = 4 } ∷ record { edge = 1; depart = 5; arrive = 7; cost = 1 } ∷ []
+
+earliest : Heading
+earliest = record { program = codes "earliest"; steps = 3; calls = None }
+
+paths : paths_report earliest way arrivals (durations_in []) way_steps
+    ≡ codes "graphite earliest steps 3\na 0 10 0\nb 0 3 none\nb 3 10 3\n> x 2 3 4\nc 4 7 none\nc 7 10 7\n> x 2 3 4\n> y 5 7 1\nend\n"
+unfolding paths_report path_lines runs_of digits earliest
+paths = refl
+
+-- the duration of a vertex stands behind all its steps
+path_and_duration : paths_report earliest way arrivals (durations_in (None ∷ Some one_instant ∷ [])) way_steps
+    ≡ codes "graphite earliest steps 3\na 0 10 0\n= a none\nb 0 3 none\nb 3 10 3\n> x 2 3 4\n= b 1 0 1\nc 4 7 none\nc 7 10 7\n> x 2 3 4\n> y 5 7 1\nend\n"
+unfolding paths_report path_lines runs_of digits earliest one_instant
+path_and_duration = refl
+
+one_path : one_path_report earliest way arrivals way_steps 2 9 ≡ codes "graphite earliest steps 3\nc 9 7\n> x 2 3 4\n> y 5 7 1\nend\n"
+unfolding one_path_report digits earliest
+one_path = refl
+
+path_without_steps : one_path_report earliest way arrivals way_steps 0 9 ≡ codes "graphite earliest steps 3\na 9 0\nend\n"
+unfolding one_path_report digits earliest
+path_without_steps = refl
+
+no_path : one_path_report earliest way arrivals way_steps 2 6 ≡ codes "graphite earliest steps 3\nc 6 none\nend\n"
+unfolding one_path_report digits earliest
+no_path = refl
+
+path_of_none_alive : one_path_report earliest way arrivals way_steps 2 3 ≡ codes "graphite earliest steps 3\nend\n"
+unfolding one_path_report digits earliest
+path_of_none_alive = refl

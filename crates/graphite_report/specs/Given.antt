@@ -1,9 +1,14 @@
--- What a writer of a report is given: what its first line says, pieces for each vertex, and durations.
-use Rattle.std.specs.Prelude.{◌≡◌, ℕ, ◌<◌, false, List, [], length, slice_get, slice_index_or, Option, None}
+-- What a writer of a report is given: what its first line says, pieces for each vertex, durations, and written journeys.
+use Rattle.std.specs.Prelude.{◌≡◌, ℕ, ◌<◌, Bool, false, List, [], length, slice_get, slice_index_or, Option, None, Some}
 use Rattle.graphite_api.specs.declared.duration.Duration.{Duration}
+use Rattle.graphite_api.specs.declared.path_query.PathQuery.{PathQuery}
+use Rattle.graphite_api.specs.Hop.{Hop}
 use Rattle.graphite_part.specs.declared.piece.Piece.{Piece}
 use Rattle.graphite_part.specs.Pieces.{value_at}
 use Rattle.graphite_text.specs.Graph.{PlainGraph, vertex_is_alive}
+use Rattle.graphite_witness.specs.declared.step.Step.{Step}
+use Rattle.graphite_witness.specs.Answered.{value_for}
+use Rattle.graphite_witness.specs.Steps.{AreSteps}
 use Rattle.graphite_report.specs.declared.head.Head.{Head}
 use Rattle.graphite_report.specs.Report.{Heading, Values}
 
@@ -23,3 +28,7 @@ durations_in durations v = slice_get durations v
 pub record AreOfVertices (graph : PlainGraph) (all : List (List (Piece (Option ℕ)))) : Type 0 where
   pub len : length all ≡ length graph.vertices
   pub alive : (v t : ℕ) → v < length graph.vertices → vertex_is_alive graph v t ≡ false → values_in all v t ≡ None
+
+-- where there is a value for v at t, the steps for it are those of its written journey
+abbrev pub TellsSteps : (ℕ → ℕ → Bool) → (Hop → Type 0) → PathQuery → List (List (Piece (Option ℕ))) → (steps : ℕ → ℕ → List Step) → Type 0
+TellsSteps alive IsHop query values steps = (v t x : ℕ) → value_for values v t ≡ Some x → AreSteps alive IsHop query v t (steps v t)

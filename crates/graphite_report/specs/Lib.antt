@@ -5,3 +5,4 @@ pub mod Faults
 pub mod Through
 pub mod Lines
 pub mod Sums
+pub mod Paths

@@ -7,6 +7,8 @@ use Rattle.std.specs.List.{range_with_len}
 use Rattle.graphite_api.specs.declared.duration.Duration.{Duration}
 use Rattle.graphite_part.specs.Runs.{Run, runs_of}
 use Rattle.graphite_text.specs.Graph.{PlainVertex, PlainGraph}
+use Rattle.graphite_graph.specs.Ends.{vertex_name, edge_name}
+use Rattle.graphite_witness.specs.declared.step.Step.{Step}
 
 -- The program, the supersteps that it made, and the calls of compute where they are counted.
 pub record Heading : Type 0 where
@@ -72,6 +74,52 @@ duration_line name (Some duration) = codes "= " ++ name ++ codes " " ++ duration
 unfoldable pub intervals_report : Heading → PlainGraph → (ℕ → Values) → (ℕ → Option (Option Duration)) → List ℕ
 intervals_report heading graph values durations =
     report_with (λ v name. vertex_lines name (values v) graph.horizon ++ duration_line name (durations v)) heading graph
+
+-- ---- the reports of written journeys
+
+-- the name of a vertex or an edge by its number; empty where there is no such vertex or edge
+abbrev pub name_of_vertex : PlainGraph → ℕ → List ℕ
+name_of_vertex graph v = unwrap_or (vertex_name graph v) []
+
+abbrev pub name_of_edge : PlainGraph → ℕ → List ℕ
+name_of_edge graph e = unwrap_or (edge_name graph e) []
+
+-- > EDGE DEPART ARRIVE COST
+abbrev pub step_line : (edge_name : ℕ → List ℕ) → Step → List ℕ
+step_line edge_name step =
+    codes "> " ++ edge_name step.edge ++ codes " " ++ decimal step.depart ++ codes " " ++ decimal step.arrive ++ codes " " ++ decimal step.cost ++ codes "\n"
+
+-- the lines of the steps after a line with this value, the first step first; none after a line with `none`
+abbrev pub steps_after : (edge_name : ℕ → List ℕ) → Option ℕ → List Step → List ℕ
+steps_after edge_name None steps = []
+steps_after edge_name (Some x) steps = flat_map (step_line edge_name) steps
+
+-- the line of a run, and the steps for its first instant
+abbrev pub path_run : List ℕ → (edge_name : ℕ → List ℕ) → (steps : ℕ → List Step) → Run (Option ℕ) → List ℕ
+path_run name edge_name steps run = run_line name run ++ steps_after edge_name run.value (steps run.from)
+
+-- the lines of the intervals report, each with its steps
+unfoldable pub path_lines : List ℕ → (edge_name : ℕ → List ℕ) → Values → (steps : ℕ → List Step) → (horizon : ℕ) → List ℕ
+path_lines name edge_name values steps horizon = flat_map (path_run name edge_name steps) (runs_of same_value values horizon)
+
+-- the intervals report with steps, which are these for a vertex at an instant
+unfoldable pub paths_report : Heading → PlainGraph → (ℕ → Values) → (ℕ → Option (Option Duration)) → (steps : ℕ → ℕ → List Step) → List ℕ
+paths_report heading graph values durations steps =
+    report_with (λ v name. path_lines name (name_of_edge graph) (values v) (steps v) graph.horizon ++ duration_line name (durations v)) heading graph
+
+-- NAME T VALUE
+abbrev pub value_line : List ℕ → (t : ℕ) → Option ℕ → List ℕ
+value_line name t value = name ++ codes " " ++ decimal t ++ codes " " ++ value_text value ++ codes "\n"
+
+-- that line and the steps, where the vertex is alive, and else no line
+abbrev pub one_path_lines : List ℕ → (edge_name : ℕ → List ℕ) → (t : ℕ) → Option (Option ℕ) → List Step → List ℕ
+one_path_lines name edge_name t None steps = []
+one_path_lines name edge_name t (Some value) steps = value_line name t value ++ steps_after edge_name value steps
+
+-- the report of one vertex at one instant
+unfoldable pub one_path_report : Heading → PlainGraph → (ℕ → Values) → (steps : ℕ → ℕ → List Step) → (v t : ℕ) → List ℕ
+one_path_report heading graph values steps v t =
+    first_line heading ++ one_path_lines (name_of_vertex graph v) (name_of_edge graph) t (values v t) (steps v t) ++ codes "end\n"
 
 -- ---- the report of one instant
 

@@ -1,15 +1,17 @@
 //! The lines of a report, appended to a buffer.
-ghost use Rattle.std.specs.Prelude.{◌≡◌, ◌++◌, map, flat_map, OnOk};
+ghost use Rattle.std.specs.Prelude.{◌≡◌, ◌<◌, ◌++◌, All, length, map, flat_map, OnOk};
 ghost use Rattle.graphite_part.specs.Pieces.{run_of, value_at};
 ghost use Rattle.graphite_report.specs.Given.{heading_of};
-ghost use Rattle.graphite_report.specs.Report.{calls_text, duration_line, duration_text, first_line, instant_lines, run_line, totals_line, value_text};
+ghost use Rattle.graphite_report.specs.Report.{calls_text, duration_line, duration_text, first_line, instant_lines, name_of_edge, run_line, step_line, totals_line, value_line, value_text};
 
 use crate::Head;
 use crate::sums::Totals;
 use graphite_api::Duration;
 use graphite_base::push_number;
+use graphite_graph::Graph;
 use graphite_part::{Partition, Piece};
 use graphite_time::NoMemory;
+use graphite_witness::Step;
 
 /// Appends what the first line says of the calls.
 fn push_calls(into: &mut Vec<u8>, calls: Option<u128>) -> Result<(), NoMemory>
@@ -47,7 +49,7 @@ fn push_value(into: &mut Vec<u8>, value: Option<u64>) -> Result<(), NoMemory>
 }
 
 /// Appends the line that says that a vertex has a value throughout a piece.
-fn push_run(into: &mut Vec<u8>, name: &[u8], piece: Piece<Option<u64>>) -> Result<(), NoMemory>
+pub fn push_run(into: &mut Vec<u8>, name: &[u8], piece: Piece<Option<u64>>) -> Result<(), NoMemory>
     ensures { OnOk result (into.new.items ≡ into.old.items ++ run_line name.now (run_of piece)) }
 {
     into.extend_from_slice(name)?;
@@ -107,6 +109,52 @@ pub fn push_duration(
     into.extend_from_slice(name)?;
     into.extend_from_slice(b" ")?;
     push_duration_text(into, duration)?;
+    into.extend_from_slice(b"\n")?;
+    Ok(())
+}
+
+/// Appends the line that says that a vertex has a value at an instant.
+pub fn push_value_line(
+    into: &mut Vec<u8>,
+    name: &[u8],
+    t: u64,
+    value: Option<u64>,
+) -> Result<(), NoMemory>
+    ensures { OnOk result (into.new.items ≡ into.old.items ++ value_line name.now t value) }
+{
+    into.extend_from_slice(name)?;
+    into.extend_from_slice(b" ")?;
+    push_number(into, u128::from(t))?;
+    into.extend_from_slice(b" ")?;
+    push_value(into, value)?;
+    into.extend_from_slice(b"\n")?;
+    Ok(())
+}
+
+/// Appends the lines of steps.
+pub fn push_steps(into: &mut Vec<u8>, graph: &Graph<'_>, steps: &[Step]) -> Result<(), NoMemory>
+    requires { All (λ step. step.edge < length graph.now.edges) steps.now }
+    ensures { OnOk result (into.new.items
+        ≡ into.old.items ++ flat_map (step_line (name_of_edge graph.now)) steps.now) }
+{
+    for step in steps {
+        push_step(into, graph.edge_name(step.edge), *step)?;
+    }
+    Ok(())
+}
+
+/// Appends the line of a step along the edge with this name.
+fn push_step(into: &mut Vec<u8>, edge: &[u8], step: Step) -> Result<(), NoMemory>
+    ensures { OnOk result (into.new.items ≡ into.old.items ++ step_line (λ e. edge.now) step) }
+{
+    into.extend_from_slice(b"> ")?;
+    into.extend_from_slice(edge)?;
+    into.extend_from_slice(b" ")?;
+    push_number(into, u128::from(step.depart))?;
+    into.extend_from_slice(b" ")?;
+    push_number(into, u128::from(step.arrive))?;
+    into.extend_from_slice(b" ")?;
+    push_number(into, u128::from(step.cost))?;
     into.extend_from_slice(b"\n")?;
     Ok(())
 }

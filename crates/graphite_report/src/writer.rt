@@ -140,7 +140,7 @@ fn write_vertices<K: Sink>(
 }
 
 /// What is said of the duration of a vertex: its entry, if there is one.
-fn duration_of(durations: &[Option<Duration>], v: u32) -> Option<Option<Duration>>
+pub fn duration_of(durations: &[Option<Duration>], v: u32) -> Option<Option<Duration>>
     ensures { result ≡ durations_in durations.now v }
 {
     durations.get(v as usize).copied()

@@ -3,3 +3,5 @@ pub mod CallLemmas
 pub mod SnapLemmas
 pub mod PathLemmas
 pub mod AskedLemmas
+pub mod ToldLemmas
+pub mod AcceptedLemmas

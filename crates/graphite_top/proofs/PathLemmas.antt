@@ -1,5 +1,5 @@
 -- The answer of a run of a program of journeys is what its report is made of, and it is the only one.
-use Rattle.std.proofs.Common.{◌≡◌, ℕ, ◌+◌, ◌<◌, ◌≤◌, ◌⊎◌, Bool, true, false, List, [], length, slice_index_or, Option, None, Some, refl, sym, ap, subst, ◌∙◌, arith, inl, inr, ⊎_elim, if◌then◌else◌, IsTrue, IsSome}
+use Rattle.std.proofs.Common.{◌≡◌, ℕ, ◌+◌, ◌<◌, ◌≤◌, ◌⊎◌, Bool, true, false, List, [], length, slice_index_or, Option, None, Some, refl, sym, ap, subst, ◌∙◌, arith, inl, inr, ⊎_elim, if◌then◌else◌, IsTrue, is_some, IsSome}
 use Rattle.std.proofs.lemmas.Bool.{cases_lt, false≢true}
 use Rattle.std.proofs.lemmas.List.{ext_get_or}
 use Rattle.graphite_api.specs.declared.duration.Duration.{Duration}
@@ -13,19 +13,30 @@ use Rattle.graphite_api.specs.declared.kind.Kind.{Kind}
 use Rattle.graphite_api.specs.declared.kind.Kind.TheVariants.{Reach, Earliest, Cheapest, Fastest, Latest}
 use Rattle.graphite_api.specs.declared.path_query.PathQuery.{PathQuery}
 use Rattle.graphite_api.specs.Hop.{Hop}
-use Rattle.graphite_api.specs.Journey.{IsAsGood, IsBestOverAll, IsValueWithin}
+use Rattle.graphite_api.specs.Journey.{IsAsGood, IsValueWithin}
 use Rattle.graphite_api.proofs.BestLemmas.{IsBest-one}
 use Rattle.graphite_graph.specs.Ends.{lifespan_count}
-use Rattle.graphite_hops.specs.Hops.{IsHopOf}
+use Rattle.graphite_hops.specs.Hops.{hop_at, IsHopOf}
 use Rattle.graphite_loop.specs.Journeys.{vertex_value}
 use Rattle.graphite_paths.specs.Answer.{IsFirstSettled, AreOnLives}
 use Rattle.graphite_paths.specs.Durations.{duration_at, AreDurationsOf}
 use Rattle.graphite_report.specs.Given.{AreOfVertices, durations_in, values_in}
+use Rattle.graphite_report.specs.Report.{Heading, Values}
+use Rattle.graphite_witness.specs.declared.step.Step.{Step}
+use Rattle.graphite_witness.specs.Answered.{AreOnce}
+use Rattle.graphite_witness.proofs.StepsLemmas.{steps-one}
+use Rattle.graphite_words.specs.declared.query.Report.{Report}
+use Rattle.graphite_top.specs.declared.told.Whose.{Whose}
+use Rattle.graphite_top.specs.Found.{IsFound}
 use Rattle.graphite_top.specs.Answer.{Answer, budget_refusal, path_heading, report_answer, report_text}
-use Rattle.graphite_top.specs.Journeys.{JourneyAsk, IsJourneyAnswer, IsJourneyReport, IsSettled, printed_on}
+use Rattle.graphite_top.specs.Journeys.{JourneyAsk, AreTold, IsJourneyAnswer, IsJourneyReport, IsSettled, journeys_text, printed_on}
 use Rattle.graphite_top.proofs.SnapLemmas.{same_texts}
 
 -- ---- from the answer to the report
+
+-- nothing is none
+no_some : {X : Type 0} (o : Option X) → o ≡ None → IsSome o → ⊥
+no_some o none some = false≢true (sym (ap is_some none) ∙ some)
 
 -- a vertex has pieces at the instants of its life alone
 pub of_lives : (graph : PlainGraph) (all : List (List (Piece (Option ℕ)))) → AreOnLives (vertex_is_alive graph) (length graph.vertices) all → AreOfVertices graph all
@@ -47,33 +58,31 @@ printed_at true (Some value) to from = refl
 printed_at false None to from = refl
 printed_at false (Some value) to from = absurd (false≢true (to refl))
 
-printed : (graph : PlainGraph) (all : List (List (Piece (Option ℕ)))) → AreOnLives (vertex_is_alive graph) (length graph.vertices) all
+pub printed : (graph : PlainGraph) (all : List (List (Piece (Option ℕ)))) → AreOnLives (vertex_is_alive graph) (length graph.vertices) all
     → (v : ℕ) → v < 0 + length graph.vertices → values_in all v ≡ printed_on graph (vertex_value all) v
 printed graph all on v less =
     let within : v < length graph.vertices = omega (arith, less) in
     fun_ext (λ t. printed_at (vertex_is_alive graph v t) (values_in all v t) (on.lives v t within).0 (on.lives v t within).1)
 
--- the report of the values that were found is the one that is asked for
-pub report_of_path : (ask : JourneyAsk) (all : List (List (Piece (Option ℕ)))) (made : ℕ)
-    → ((v t : ℕ) → IsBestOverAll (vertex_is_alive ask.graph) (IsHopOf ask.graph) ask.query v t (vertex_value all v t))
-    → AreOnLives (vertex_is_alive ask.graph) (length ask.graph.vertices) all
-    → (durations : List (Option Duration)) → AreDurationsOf ask.query.kind (length ask.graph.vertices) (vertex_value all) durations
-    → IsFirstSettled (vertex_is_alive ask.graph) (IsHopOf ask.graph) ask.query ask.steps made
-    → IsSettled ask
+-- the report of the values that were found, without journeys, is the one that is asked for
+pub report_of_path : (ask : JourneyAsk) (all : List (List (Piece (Option ℕ)))) (durations : List (Option Duration)) (made : ℕ) → IsFound ask all durations made → ask.journeys ≡ None
     → IsJourneyAnswer ask (report_answer (report_text ask.report (path_heading ask.word made) ask.graph (values_in all) (durations_in durations)))
-report_of_path ask all made best on durations lasting first settled =
+report_of_path ask all durations made found none =
     inl (
-      settled,
+      found.settled,
       (
         report_text ask.report (path_heading ask.word made) ask.graph (values_in all) (durations_in durations),
         record {
           best = vertex_value all;
-          are_best = best;
+          are_best = found.best;
           durations = durations;
-          are_durations = lasting;
+          are_durations = found.lasting;
           made = made;
-          first = first;
-          is = same_texts ask.report (path_heading ask.word made) ask.graph (values_in all) (printed_on ask.graph (vertex_value all)) (durations_in durations) (printed ask.graph all on);
+          first = found.first;
+          steps = λ v t. [];
+          are_told = λ some v t. absurd (no_some ask.journeys none some);
+          is = same_texts ask.report (path_heading ask.word made) ask.graph (values_in all) (printed_on ask.graph (vertex_value all)) (durations_in durations) (printed ask.graph all found.on)
+              ∙ ap (λ journeys. journeys_text journeys ask.report (path_heading ask.word made) ask.graph (printed_on ask.graph (vertex_value all)) (durations_in durations) (λ v t. [])) (sym none);
         },
         refl,
       ),
@@ -128,6 +137,20 @@ durations_are_one Earliest n values xs ys h g = h ∙ sym g
 durations_are_one Cheapest n values xs ys h g = h ∙ sym g
 durations_are_one Latest n values xs ys h g = h ∙ sym g
 
+-- a hop of the graph is told by its edge and its departure
+pub once_of : (graph : PlainGraph) → AreOnce (IsHopOf graph)
+once_of graph hop other is again edge depart =
+    is.is ∙ ap (λ e. hop_at graph e hop.depart) edge ∙ ap (hop_at graph other.edge) depart ∙ sym again.is
+
+told_is_one : (graph : PlainGraph) (query : PathQuery) (v t : ℕ) (value : Option ℕ) (xs ys : List Step) → AreTold graph query v t value xs → AreTold graph query v t value ys → xs ≡ ys
+told_is_one graph query v t None xs ys told again = told ∙ sym again
+told_is_one graph query v t (Some x) xs ys told again = steps-one (vertex_is_alive graph) (IsHopOf graph) query v t xs ys (once_of graph) told again
+
+-- the text has the journeys that are told alone
+same_journeys : (journeys : Option Whose) (report : Report) (heading : Heading) (graph : PlainGraph) (values : ℕ → Values) (durations : ℕ → Option (Option Duration)) (f g : ℕ → ℕ → List Step) → (IsSome journeys → f ≡ g) → journeys_text journeys report heading graph values durations f ≡ journeys_text journeys report heading graph values durations g
+same_journeys None report heading graph values durations f g same = refl
+same_journeys (Some whose) report heading graph values durations f g same = ap (journeys_text (Some whose) report heading graph values durations) (same refl)
+
 reports_are_one : (ask : JourneyAsk) (text other : List ℕ) → IsJourneyReport ask text → IsJourneyReport ask other → text ≡ other
 reports_are_one ask text other a b =
     let alive = vertex_is_alive ask.graph in
@@ -140,10 +163,15 @@ reports_are_one ask text other a b =
     durations_are_one ask.query.kind (length ask.graph.vertices) b.best a.durations b.durations
     (subst (λ best. AreDurationsOf ask.query.kind (length ask.graph.vertices) best a.durations) same_best a.are_durations) b.are_durations
     in
+    let same_steps : IsSome ask.journeys → a.steps ≡ b.steps =
+    λ some. fun_ext (λ v. fun_ext (λ t. told_is_one ask.graph ask.query v t (b.best v t) (a.steps v t) (b.steps v t)
+    (subst (λ best. AreTold ask.graph ask.query v t (best v t) (a.steps v t)) same_best (a.are_told some v t)) (b.are_told some v t)))
+    in
     a.is
-    ∙ ap (λ m. report_text ask.report (path_heading ask.word m) ask.graph (printed_on ask.graph a.best) (durations_in a.durations)) same_made
-    ∙ ap (λ best. report_text ask.report (path_heading ask.word b.made) ask.graph (printed_on ask.graph best) (durations_in a.durations)) same_best
-    ∙ ap (λ durations. report_text ask.report (path_heading ask.word b.made) ask.graph (printed_on ask.graph b.best) (durations_in durations)) same_durations
+    ∙ ap (λ m. journeys_text ask.journeys ask.report (path_heading ask.word m) ask.graph (printed_on ask.graph a.best) (durations_in a.durations) a.steps) same_made
+    ∙ ap (λ best. journeys_text ask.journeys ask.report (path_heading ask.word b.made) ask.graph (printed_on ask.graph best) (durations_in a.durations) a.steps) same_best
+    ∙ ap (λ durations. journeys_text ask.journeys ask.report (path_heading ask.word b.made) ask.graph (printed_on ask.graph b.best) (durations_in durations) a.steps) same_durations
+    ∙ same_journeys ask.journeys ask.report (path_heading ask.word b.made) ask.graph (printed_on ask.graph b.best) (durations_in b.durations) a.steps b.steps same_steps
     ∙ sym b.is
 
 pub journey_answer_is_one : (ask : JourneyAsk) (answer other : Answer) → IsJourneyAnswer ask answer → IsJourneyAnswer ask other → answer ≡ other

@@ -10,7 +10,7 @@ use Rattle.graphite_report.specs.Report.{Heading, Values, first_line, vertex_lin
 use Rattle.graphite_snap.specs.Description.{Meaning}
 use Rattle.graphite_snap.specs.Answers.{IsAnswer}
 use Rattle.graphite_words.specs.declared.query.Report.{Report}
-use Rattle.graphite_words.specs.declared.query.Report.TheVariants.{Intervals, Sums, At}
+use Rattle.graphite_words.specs.declared.query.Report.TheVariants.{Intervals, Paths, Sums, At, PathAt}
 use Rattle.graphite_top.specs.Answer.{no_durations, report_text, snap_heading}
 use Rattle.graphite_top.specs.Output.{snap_report}
 
@@ -25,7 +25,7 @@ same_lines f g n (vertex ∷ vertices) same =
     ap (λ lines. lines vertex.name ++ lines_of_vertices f (n + 1) vertices) (same n (omega arith))
     ∙ ap (λ xs. g n vertex.name ++ xs) (same_lines f g (n + 1) vertices (λ v h. same v (omega arith)))
 
-same_reports : (heading : Heading) (graph : PlainGraph) (f g : ℕ → List ℕ → List ℕ) → ((v : ℕ) → v < 0 + length graph.vertices → f v ≡ g v) → report_with f heading graph ≡ report_with g heading graph
+pub same_reports : (heading : Heading) (graph : PlainGraph) (f g : ℕ → List ℕ → List ℕ) → ((v : ℕ) → v < 0 + length graph.vertices → f v ≡ g v) → report_with f heading graph ≡ report_with g heading graph
 same_reports heading graph f g same = ap (λ xs. first_line heading ++ xs ++ codes "end\n") (same_lines f g 0 graph.vertices same)
 
 -- equal values have equal reports
@@ -38,6 +38,12 @@ same_texts Sums heading graph f g durations same =
     same_reports heading graph (λ v name. sums_line name (f v) graph.horizon) (λ v name. sums_line name (g v) graph.horizon)
     (λ v h. ap (λ values name. sums_line name values graph.horizon) (same v h))
 same_texts (At t) heading graph f g durations same =
+    same_reports heading graph (λ v name. instant_lines name (f v t)) (λ v name. instant_lines name (g v t))
+    (λ v h. ap (λ values name. instant_lines name (values t)) (same v h))
+same_texts Paths heading graph f g durations same =
+    same_reports heading graph (λ v name. vertex_lines name (f v) graph.horizon ++ duration_line name (durations v)) (λ v name. vertex_lines name (g v) graph.horizon ++ duration_line name (durations v))
+    (λ v h. ap (λ values name. vertex_lines name values graph.horizon ++ duration_line name (durations v)) (same v h))
+same_texts (PathAt t) heading graph f g durations same =
     same_reports heading graph (λ v name. instant_lines name (f v t)) (λ v name. instant_lines name (g v t))
     (λ v h. ap (λ values name. instant_lines name (values t)) (same v h))
 

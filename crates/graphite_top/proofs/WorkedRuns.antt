@@ -19,16 +19,16 @@ use Rattle.graphite_top.specs.Output.{Known, in_window, text_output}
 
 -- a query for a program without options, for one with a source, with a key, and with a number of supersteps
 abbrev plain : Command → Report → PlainQuery
-plain command report = record { command = command; vertex = None; key = None; from = 0; until = None; steps = None; report = report }
+plain command report = record { command = command; vertex = None; key = None; from = 0; until = None; steps = None; report = report; told = None }
 
 abbrev from : List ℕ → Command → PlainQuery
-from name command = record { command = command; vertex = Some name; key = None; from = 0; until = None; steps = None; report = Intervals }
+from name command = record { command = command; vertex = Some name; key = None; from = 0; until = None; steps = None; report = Intervals; told = None }
 
 abbrev under : List ℕ → Command → PlainQuery
-under key command = record { command = command; vertex = None; key = Some key; from = 0; until = None; steps = None; report = Intervals }
+under key command = record { command = command; vertex = None; key = Some key; from = 0; until = None; steps = None; report = Intervals; told = None }
 
 abbrev within : ℕ → Command → PlainQuery
-within steps command = record { command = command; vertex = None; key = None; from = 0; until = None; steps = Some steps; report = Intervals }
+within steps command = record { command = command; vertex = None; key = None; from = 0; until = None; steps = Some steps; report = Intervals; told = None }
 
 abbrev stops : List ℕ
 stops = codes "graph 1 10\nv a 0 10\nv b 0 10\nv c 2 8\ne ab a b 0 5\ne bc b c 3 7\nend\n"

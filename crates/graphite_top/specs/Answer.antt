@@ -4,7 +4,7 @@ use Rattle.graphite_text.specs.Graph.{PlainGraph}
 use Rattle.graphite_api.specs.declared.duration.Duration.{Duration}
 use Rattle.graphite_report.specs.Report.{Heading, Values, intervals_report, instant_report, sums_report}
 use Rattle.graphite_words.specs.declared.query.Report.{Report}
-use Rattle.graphite_words.specs.declared.query.Report.TheVariants.{Intervals, Sums, At}
+use Rattle.graphite_words.specs.declared.query.Report.TheVariants.{Intervals, Paths, Sums, At, PathAt}
 use Rattle.graphite_top.specs.declared.status.Status.{Status}
 use Rattle.graphite_top.specs.declared.status.Status.TheVariants.{Done, TextRefused, WordsRefused, QueryRefused, Budget}
 
@@ -27,11 +27,14 @@ path_heading word made = record { program = word; steps = made; calls = None }
 abbrev pub no_durations : ℕ → Option (Option Duration)
 no_durations v = None
 
--- the report of this kind, of a graph whose vertices have these values and durations; the intervals alone tell the latter
+-- The report of this kind, of a graph whose vertices have these values and durations; the intervals alone tell the latter.
+-- The kinds that tell journeys stand here without them: a program of snapshots has none, and no words ask it for them.
 abbrev pub report_text : Report → Heading → PlainGraph → (ℕ → Values) → (ℕ → Option (Option Duration)) → List ℕ
 report_text Intervals heading graph values durations = intervals_report heading graph values durations
 report_text Sums heading graph values durations = sums_report heading graph values
 report_text (At t) heading graph values durations = instant_report heading graph values t
+report_text Paths heading graph values durations = intervals_report heading graph values durations
+report_text (PathAt t) heading graph values durations = instant_report heading graph values t
 
 -- a report, or the text of a graph
 abbrev pub report_answer : List ℕ → Answer
@@ -61,6 +64,10 @@ instant_refusal = record { status = QueryRefused; text = codes "refused query 2\
 -- the refusal of a query whose window holds no instant
 abbrev pub window_refusal : Answer
 window_refusal = record { status = QueryRefused; text = codes "refused query 3\n" }
+
+-- the refusal of a query for the journey of a vertex at an instant at which it is not alive
+abbrev pub life_refusal : Answer
+life_refusal = record { status = QueryRefused; text = codes "refused query 4\n" }
 
 -- the refusal of a program of journeys that does not settle within so many supersteps
 abbrev pub budget_refusal : (steps : ℕ) → Answer

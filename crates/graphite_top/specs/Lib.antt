@@ -3,3 +3,4 @@ pub mod Answer
 pub mod Journeys
 pub mod Output
 pub mod Call
+pub mod Found

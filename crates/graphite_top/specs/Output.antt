@@ -1,7 +1,7 @@
 -- What a call of the program writes, by cases on the words and the text.
-use Rattle.std.specs.Prelude.{◌≡◌, ℕ, ◌+◌, ◌-◌, ⊤, ◌⊎◌, ◌<◌, ◌≤◌, ◌&&◌, Bool, true, nat_le, nat_lt, IsSome, IsTrue, if◌then◌else◌, List, [], length, Option, Some, None, option_map, option_and_then, unwrap_or}
+use Rattle.std.specs.Prelude.{◌≡◌, ℕ, ◌+◌, ◌-◌, ⊤, ◌⊎◌, ◌<◌, ◌≤◌, ◌&&◌, Bool, true, nat_le, nat_lt, is_some, IsSome, IsTrue, if◌then◌else◌, List, [], length, Option, Some, None, option_map, option_and_then, unwrap_or}
 use Rattle.graphite_text.specs.Canonical.{canonical_text}
-use Rattle.graphite_text.specs.Graph.{PlainGraph, vertex_number}
+use Rattle.graphite_text.specs.Graph.{PlainGraph, vertex_is_alive, vertex_number}
 use Rattle.graphite_text.specs.Reading.{Reading, Accepted, Refused, reading_of}
 use Rattle.graphite_graph.specs.Ends.{lifespan_count}
 use Rattle.graphite_api.specs.declared.kind.Kind.{Kind}
@@ -11,14 +11,16 @@ use Rattle.graphite_snap.specs.declared.query.SnapQuery.TheVariants as snap
 use Rattle.graphite_snap.specs.Description.{Meaning}
 use Rattle.graphite_snap.specs.Answers.{meaning_of, IsAsked}
 use Rattle.graphite_top.specs.declared.asked.Asked.{Asked}
-use Rattle.graphite_top.specs.declared.asked.Asked.TheVariants.{Text, Snap, Path, NoVertex, NoInstant, NoWindow}
+use Rattle.graphite_top.specs.declared.asked.Asked.TheVariants.{Text, Snap, Path, NoVertex, NoInstant, NoWindow, NotAlive}
+use Rattle.graphite_top.specs.declared.told.Whose.{Whose}
+use Rattle.graphite_top.specs.declared.told.Whose.TheVariants.{All, One}
 use Rattle.graphite_words.specs.declared.table.Command.{Command}
 use Rattle.graphite_words.specs.declared.table.Command.TheVariants.{Degree, Bfs, Components, Max, Distance, Rank, Reach, Earliest, Cheapest, Fastest, Latest, Show}
 use Rattle.graphite_words.specs.declared.query.Report.{Report}
-use Rattle.graphite_words.specs.declared.query.Report.TheVariants.{At}
+use Rattle.graphite_words.specs.declared.query.Report.TheVariants.{Paths, At, PathAt}
 use Rattle.graphite_words.specs.Table.{row_of, wants_vertex}
 use Rattle.graphite_words.specs.Words.{PlainQuery, query_of}
-use Rattle.graphite_top.specs.Answer.{Answer, instant_refusal, no_durations, report_answer, report_text, snap_heading, text_refusal, vertex_refusal, window_refusal, words_refusal}
+use Rattle.graphite_top.specs.Answer.{Answer, instant_refusal, life_refusal, no_durations, report_answer, report_text, snap_heading, text_refusal, vertex_refusal, window_refusal, words_refusal}
 use Rattle.graphite_top.specs.Journeys.{JourneyAsk}
 
 -- What is written: one answer, or that to a question about journeys.
@@ -93,9 +95,34 @@ key_of query = unwrap_or query.key []
 abbrev pub until_of : PlainQuery → PlainGraph → ℕ
 until_of query graph = unwrap_or query.until graph.horizon
 
+-- whose written journeys a query asks for: all, or that of one vertex of the graph at an instant
+abbrev pub journeys_by : Report → (told : Option ℕ) → Option Whose
+journeys_by Paths told = Some All
+journeys_by (PathAt t) told = option_map (λ v. One v t) told
+journeys_by report told = None
+
+abbrev pub journeys_of : PlainQuery → PlainGraph → Option Whose
+journeys_of query graph = journeys_by query.report (option_and_then (vertex_number graph) query.told)
+
+-- its number is one of the graph's
+abbrev pub IsToldIn : PlainGraph → Option Whose → Type 0
+IsToldIn graph (Some (One v t)) = v < length graph.vertices
+IsToldIn graph journeys = ⊤
+
+-- whether the vertex whose journey is to be told, where one alone is, is one of the graph
+abbrev pub is_told_there : Report → Option Whose → Bool
+is_told_there (PathAt t) journeys = is_some journeys
+is_told_there report journeys = true
+
+-- whether it is alive at the instant
+abbrev pub is_told_alive : PlainGraph → Option Whose → Bool
+is_told_alive graph (Some (One v t)) = vertex_is_alive graph v t
+is_told_alive graph journeys = true
+
 -- whether the instant that is to be told of, where there is one, is below the horizon
 abbrev pub is_told_in_time : Report → (horizon : ℕ) → Bool
 is_told_in_time (At t) horizon = nat_lt t horizon
+is_told_in_time (PathAt t) horizon = nat_lt t horizon
 is_told_in_time report horizon = true
 
 -- whether a window of so many instants is short enough: only that of the fastest journeys has a limit, of 4,096 instants
@@ -117,17 +144,28 @@ in_time report horizon (Path query) =
     if is_told_in_time report horizon && nat_lt query.from horizon && nat_le query.until horizon then in_window query else NoInstant
 in_time report horizon asked = asked
 
--- what a query asks of a graph: the vertex that it names has to be there, then its instants to be in time, and then its
--- window to hold one
+-- what is asked, where the vertex whose journey is to be told, if there is one, is one of the graph
+abbrev pub in_graph : Report → Option Whose → Asked → Asked
+in_graph report journeys asked = if is_told_there report journeys then asked else NoVertex
+
+-- a question about journeys, where that vertex is alive then
+abbrev pub in_life : PlainGraph → Option Whose → Asked → Asked
+in_life graph journeys (Path query) = if is_told_alive graph journeys then Path query else NotAlive
+in_life graph journeys asked = asked
+
+-- what a query asks of a graph: the vertices that it names have to be there, then its instants to be in time, then its
+-- window to hold one, and then the vertex whose journey is to be told to be alive
 abbrev pub asked_of : PlainQuery → PlainGraph → Asked
 asked_of query graph =
-    in_time query.report graph.horizon (asked_by query.command (source_of query graph) (key_of query) query.from (until_of query graph))
+    in_life graph (journeys_of query graph) (in_time query.report graph.horizon (in_graph query.report (journeys_of query graph)
+    (asked_by query.command (source_of query graph) (key_of query) query.from (until_of query graph))))
 
 -- what is asked is nothing that a graph answers
 abbrev pub IsRefused : Asked → Type 0
 IsRefused NoVertex = ⊤
 IsRefused NoInstant = ⊤
 IsRefused NoWindow = ⊤
+IsRefused NotAlive = ⊤
 IsRefused asked = ⊥
 
 -- what is asked is a question about journeys
@@ -138,6 +176,7 @@ IsPath asked = ⊥
 -- a query that a graph can refuse: it names a vertex, or an instant
 abbrev pub GivesInstant : Report → Type 0
 GivesInstant (At t) = ⊤
+GivesInstant (PathAt t) = ⊤
 GivesInstant report = ⊥
 
 abbrev pub CanBeRefused : Option PlainQuery → Type 0
@@ -159,20 +198,21 @@ HasBudget (Some query) = AsksJourneys query × IsSome query.steps
 abbrev pub steps_of : PlainQuery → PlainGraph → ℕ
 steps_of query graph = unwrap_or query.steps (usual_steps (row_of query.command).usual_steps graph)
 
--- what is written for what is asked of a graph, by a query for a report of this kind and a program with this word that is
--- allowed so many supersteps
-abbrev pub asked_output : PlainGraph → Report → (word : List ℕ) → (steps : ℕ) → Asked → Output
-asked_output graph report word steps Text = Known (report_answer (canonical_text graph))
-asked_output graph report word steps (Snap query) = Known (report_answer (snap_report report graph word (meaning_of query) steps))
-asked_output graph report word steps (Path query) =
-    OfJourneys (record { graph = graph; query = query; report = report; word = word; steps = steps })
-asked_output graph report word steps NoVertex = Known vertex_refusal
-asked_output graph report word steps NoInstant = Known instant_refusal
-asked_output graph report word steps NoWindow = Known window_refusal
+-- what is written for what is asked of a graph, by a query for a report of this kind with these journeys and a program with
+-- this word that is allowed so many supersteps
+abbrev pub asked_output : PlainGraph → Report → Option Whose → (word : List ℕ) → (steps : ℕ) → Asked → Output
+asked_output graph report journeys word steps Text = Known (report_answer (canonical_text graph))
+asked_output graph report journeys word steps (Snap query) = Known (report_answer (snap_report report graph word (meaning_of query) steps))
+asked_output graph report journeys word steps (Path query) =
+    OfJourneys (record { graph = graph; query = query; report = report; journeys = journeys; word = word; steps = steps })
+asked_output graph report journeys word steps NoVertex = Known vertex_refusal
+asked_output graph report journeys word steps NoInstant = Known instant_refusal
+asked_output graph report journeys word steps NoWindow = Known window_refusal
+asked_output graph report journeys word steps NotAlive = Known life_refusal
 
 -- what is written for a query and a graph
 abbrev pub graph_output : PlainQuery → PlainGraph → Output
-graph_output query graph = asked_output graph query.report (row_of query.command).word (steps_of query graph) (asked_of query graph)
+graph_output query graph = asked_output graph query.report (journeys_of query graph) (row_of query.command).word (steps_of query graph) (asked_of query graph)
 
 -- what is written for what the reading of a text gives
 abbrev pub reading_output : PlainQuery → Reading → Output

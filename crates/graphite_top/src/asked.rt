@@ -2,8 +2,9 @@
 ghost use Rattle.std.specs.Prelude.{◌≡◌, ◌<◌, ℕ, length, IfOk, IfSome};
 ghost use Rattle.graphite_text.specs.Graph.{PlainGraph};
 ghost use Rattle.graphite_words.specs.Query.{plain_query};
-ghost use Rattle.graphite_top.specs.Output.{asked_by, asked_of, in_time, in_window, is_told_in_time, key_of, path_asked, source_of, is_short, AsksJourneys, CanBeRefused, IsAskedBy, IsAskedOf, IsPath, IsRefused};
+ghost use Rattle.graphite_top.specs.Output.{asked_by, asked_of, in_graph, in_life, in_time, in_window, is_told_alive, is_told_in_time, journeys_of, key_of, path_asked, source_of, is_short, AsksJourneys, CanBeRefused, IsAskedBy, IsAskedOf, IsPath, IsRefused, IsToldIn};
 
+use crate::told::Whose;
 use graphite_api::{Kind, PathQuery};
 use graphite_base::Bytes;
 use graphite_graph::Graph;
@@ -28,6 +29,8 @@ pub enum Asked {
     NoInstant,
     /// To look at a window that holds no instant, or too many for the fastest journeys.
     NoWindow,
+    /// To tell the journey of a vertex at an instant at which it is not alive.
+    NotAlive,
 }
 
 /// What a query asks of a graph. Refused only where memory is short.
@@ -44,7 +47,63 @@ pub fn asked_of(alloc: Global, query: &Query, graph: &Graph<'_>) -> Result<Asked
     };
     let source = source_of(query, graph);
     let asked = asked_by(alloc, query.command, source, key_of(query), window)?;
-    Ok(in_time(query.report, graph.horizon(), asked))
+    let journeys = journeys_of(query, graph);
+    let asked = in_graph(query.report, journeys, asked);
+    let asked = in_time(query.report, graph.horizon(), asked);
+    Ok(in_life(graph, journeys, asked))
+}
+
+/// Whose written journeys a query asks for: all, or that of one vertex of the graph at an instant.
+pub fn journeys_of(query: &Query, graph: &Graph<'_>) -> Option<Whose>
+    ensures journeys { result ≡ journeys_of (plain_query query.now) graph.now }
+    ensures in_range { IsToldIn graph.now result }
+{
+    match query.report {
+        Report::Paths => Some(Whose::All),
+        Report::PathAt(t) => {
+            let vertex = graph.find_vertex(query.told.as_ref()?.as_slice())?;
+            Some(Whose::One(vertex, t))
+        }
+        Report::Intervals | Report::Sums | Report::At(_) => None,
+    }
+}
+
+/// What is asked, where the vertex whose journey is to be told, if there is one, is one of the graph.
+fn in_graph(report: Report, journeys: Option<Whose>, asked: Asked) -> Asked
+    ensures { result ≡ in_graph report journeys asked }
+{
+    match (report, journeys) {
+        (Report::PathAt(_), None) => Asked::NoVertex,
+        _ => asked,
+    }
+}
+
+/// A question about journeys, where that vertex is alive then.
+fn in_life(graph: &Graph<'_>, journeys: Option<Whose>, asked: Asked) -> Asked
+    requires { IsToldIn graph.now journeys }
+    ensures { result ≡ in_life graph.now journeys asked }
+{
+    match asked {
+        Asked::Path(query) => {
+            if is_told_alive(graph, journeys) {
+                Asked::Path(query)
+            } else {
+                Asked::NotAlive
+            }
+        }
+        asked => asked,
+    }
+}
+
+/// Whether the vertex whose journey is to be told, where one alone is, is alive at the instant.
+fn is_told_alive(graph: &Graph<'_>, journeys: Option<Whose>) -> bool
+    requires { IsToldIn graph.now journeys }
+    ensures { result ≡ is_told_alive graph.now journeys }
+{
+    match journeys {
+        Some(Whose::One(vertex, t)) => graph.vertex_life(vertex).holds(t),
+        Some(Whose::All) | None => true,
+    }
 }
 
 /// Whether the instant that is to be told of, where there is one, is below the horizon.
@@ -52,8 +111,8 @@ fn is_told_in_time(report: Report, horizon: u64) -> bool
     ensures { result ≡ is_told_in_time report horizon }
 {
     match report {
-        Report::At(t) => t < horizon,
-        Report::Intervals | Report::Sums => true,
+        Report::At(t) | Report::PathAt(t) => t < horizon,
+        Report::Intervals | Report::Paths | Report::Sums => true,
     }
 }
 

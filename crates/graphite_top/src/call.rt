@@ -6,14 +6,14 @@ ghost use Rattle.graphite_base.specs.Known.{IsEmptied};
 ghost use Rattle.graphite_text.specs.Canonical.{canonical_text};
 ghost use Rattle.graphite_text.specs.Reading.{text_limit};
 ghost use Rattle.graphite_top.specs.Answer.{report_answer, text_refusal, words_refusal};
-ghost use Rattle.graphite_top.specs.Output.{graph_output, output_of, query_output, text_output, steps_of, usual_steps, CanBeRefused, HasBudget};
+ghost use Rattle.graphite_top.specs.Output.{graph_output, output_of, query_output, text_output, journeys_of, steps_of, usual_steps, CanBeRefused, HasBudget, IsToldIn};
 ghost use Rattle.graphite_words.specs.Query.{number_given, plain_query};
 ghost use Rattle.graphite_words.specs.Table.{row_of};
 ghost use Rattle.graphite_words.specs.Words.{query_of};
 ghost use Rattle.graphite_top.specs.Call.{Answers, Writes, WritesThis, Gives, IsWritten, IsReadThrough};
 
 use crate::Status;
-use crate::asked::{Asked, asked_of};
+use crate::asked::{Asked, asked_of, journeys_of};
 use crate::path::write_path;
 use crate::snap::write_snap;
 use crate::told::Telling;
@@ -34,8 +34,9 @@ pub fn run<S: Source, K: Sink>(
     source: &mut S,
     sink: &mut K,
 ) -> Status
-    // The status and the text of the answer, or a prefix of that text. For a program of journeys there are best values
-    // such that the text is their report, or the values are not settled within the supersteps allowed.
+    // The status and the text of the answer, or a prefix of that text. For a program of journeys there are best values,
+    // and a written journey for each that is told, such that the text is their report, or the values are not settled
+    // within the supersteps allowed.
     ensures answer { IfSome (output_of (map string_bytes words.now) (S.left source.old))
         (λ output. Answers result output (K.written sink.old) (K.written sink.new)) }
 
@@ -128,6 +129,7 @@ fn report<K: Sink>(alloc: Global, query: &Query, graph: &Graph<'_>, sink: &mut K
         Ok(Asked::NoVertex) => write(sink, b"refused query 1\n", Status::QueryRefused),
         Ok(Asked::NoInstant) => write(sink, b"refused query 2\n", Status::QueryRefused),
         Ok(Asked::NoWindow) => write(sink, b"refused query 3\n", Status::QueryRefused),
+        Ok(Asked::NotAlive) => write(sink, b"refused query 4\n", Status::QueryRefused),
         Err(_) => Status::NoMemory,
     }
 }
@@ -137,12 +139,15 @@ fn telling(query: &Query, graph: &Graph<'_>) -> Telling
     ensures word { result.word.now ≡ (row_of query.now.command).word }
     ensures steps { result.steps.number ≡ steps_of (plain_query query.now) graph.now }
     ensures report { result.report ≡ query.now.report }
+    ensures journeys { result.journeys ≡ journeys_of (plain_query query.now) graph.now }
+    ensures in_range { IsToldIn graph.now result.journeys }
 {
     let row = row_of(query.command);
     Telling {
         word: row.word,
         steps: query.steps.unwrap_or(usual_steps(row, graph)),
         report: query.report,
+        journeys: journeys_of(query, graph),
     }
 }
 

@@ -3,6 +3,7 @@
 
 mod asked;
 mod call;
+mod journeys;
 mod laws;
 mod path;
 mod snap;

@@ -7,16 +7,17 @@ ghost use Rattle.graphite_report.specs.Given.{durations_in, values_in, AreOfVert
 ghost use Rattle.graphite_report.specs.Written.{AppendsPrefix};
 ghost use Rattle.graphite_top.specs.Answer.{budget_refusal, path_heading, report_answer, report_text};
 ghost use Rattle.graphite_top.specs.Call.{Writes, WritesThis};
-ghost use Rattle.graphite_top.specs.Output.{IsPathOf, OfJourneys};
+ghost use Rattle.graphite_top.specs.Found.{IsFound};
+ghost use Rattle.graphite_top.specs.Output.{IsPathOf, IsToldIn, OfJourneys};
 
 use crate::Status;
-use crate::told::{Telling, write_values};
+use crate::journeys::write_journeys;
+use crate::told::{Telling, head_of, status_of, write_values};
 use crate::write::write;
 use graphite_api::PathQuery;
 use graphite_base::{Sink, push_number};
 use graphite_graph::Graph;
 use graphite_paths::{PathAnswer, PathFault, run_path};
-use graphite_report::{Head, ReportFault};
 use graphite_time::NoMemory;
 use std::alloc::Global;
 
@@ -29,21 +30,44 @@ pub fn write_path<K: Sink>(
     telling: Telling,
     sink: &mut K,
 ) -> Status
-    requires { IsPathOf graph.now query.now }
-    ensures writes { Writes result (OfJourneys (record { graph = graph.now; query = query.now; report = telling.report; word = telling.word.now; steps = telling.steps.number })) (K.written sink.old) (K.written sink.new) (K.faults sink.old) (K.faults sink.new) }
+    requires fits { IsPathOf graph.now query.now }
+    requires told { IsToldIn graph.now telling.journeys }
+    ensures writes { Writes result (OfJourneys (record { graph = graph.now; query = query.now; report = telling.report; journeys = telling.journeys; word = telling.word.now; steps = telling.steps.number })) (K.written sink.old) (K.written sink.new) (K.faults sink.old) (K.faults sink.new) }
     ensures accepted { result ≢ Status.QueryRefused }
     ensures enough { result ≡ Status.Budget → lifespan_count graph.now + 1 ≤ telling.steps.number → ⊥ }
     ensures later { K.faults sink.old ≤ K.faults sink.new }
 {
     match run_path(alloc, graph, query, telling.steps.number) {
-        Ok(answer) => write_answer(alloc, graph, &answer, telling, sink),
+        Ok(answer) => write_answer(alloc, graph, query, &answer, telling, sink),
         Err(PathFault::Budget) => refuse_budget(alloc, telling.steps.number, sink),
         Err(PathFault::NoMemory) => Status::NoMemory,
     }
 }
 
-/// Writes the report of the values that were found.
+/// Writes the report of the values that were found, with written journeys where these are to be told.
 fn write_answer<K: Sink>(
+    alloc: Global,
+    graph: &Graph<'_>,
+    query: &PathQuery,
+    answer: &PathAnswer,
+    telling: Telling,
+    sink: &mut K,
+) -> Status
+    requires found { IsFound (record { graph = graph.now; query = query.now; report = telling.report; journeys = telling.journeys; word = telling.word.now; steps = telling.steps.number }) answer.now.values.items answer.now.durations.items answer.now.made }
+    requires told { IsToldIn graph.now telling.journeys }
+    ensures writes { Writes result (OfJourneys (record { graph = graph.now; query = query.now; report = telling.report; journeys = telling.journeys; word = telling.word.now; steps = telling.steps.number })) (K.written sink.old) (K.written sink.new) (K.faults sink.old) (K.faults sink.new) }
+    ensures accepted { result ≢ Status.QueryRefused }
+    ensures settled { result ≢ Status.Budget }
+    ensures later { K.faults sink.old ≤ K.faults sink.new }
+{
+    match telling.journeys {
+        Some(whose) => write_journeys(alloc, graph, query, answer, telling, whose, sink),
+        None => write_found(alloc, graph, answer, telling, sink),
+    }
+}
+
+/// Writes the report of the values that were found, without journeys.
+fn write_found<K: Sink>(
     alloc: Global,
     graph: &Graph<'_>,
     answer: &PathAnswer,
@@ -52,14 +76,12 @@ fn write_answer<K: Sink>(
 ) -> Status
     requires { AreOfVertices graph.now answer.now.values.items }
     ensures writes { WritesThis result (report_answer (report_text telling.report (path_heading telling.word.now answer.now.made) graph.now (values_in answer.now.values.items) (durations_in answer.now.durations.items))) (K.written sink.old) (K.written sink.new) (K.faults sink.old) (K.faults sink.new) }
+    ensures accepted { result ≢ Status.QueryRefused }
+    ensures settled { result ≢ Status.Budget }
     ensures later { K.faults sink.old ≤ K.faults sink.new }
 {
-    let head = Head {
-        program: telling.word,
-        steps: answer.made,
-        calls: None,
-    };
-    match write_values(
+    let head = head_of(answer, telling);
+    let written = write_values(
         alloc,
         graph,
         &head,
@@ -67,11 +89,8 @@ fn write_answer<K: Sink>(
         &answer.values,
         &answer.durations,
         sink,
-    ) {
-        Ok(()) => Status::Done,
-        Err(ReportFault::WriteFailed) => Status::WriteFault,
-        Err(ReportFault::NoMemory) => Status::NoMemory,
-    }
+    );
+    status_of(written)
 }
 
 /// The refusal of a program of journeys that does not settle within so many supersteps.

@@ -105,6 +105,60 @@ fn starts_and_durations(rt: HostRuntime) -> Result<(), Fail> {
     Ok(())
 }
 
+/// Written journeys: the later departure that arrives first, a way round that costs nothing, epoch milliseconds, the latest
+/// departure, one journey alone, and durations beside journeys.
+#[test]
+fn written_journeys(rt: HostRuntime) -> Result<(), Fail> {
+    let cases: [(&[&str], &[u8], &[u8]); 6] = [
+        (
+            &["earliest", "--source", "a", "--report", "paths"],
+            LATER_IS_EARLIER,
+            b"graphite earliest steps 3\na 0 20 0\nb 0 6 none\nb 6 20 6\n> x 5 6 1\nend\n",
+        ),
+        (
+            &["cheapest", "--source", "a", "--report", "paths"],
+            FREE_ROUND,
+            b"graphite cheapest steps 4\na 0 10 0\nb 0 1 none\nb 1 10 0\n> ab 0 1 0\nc 0 2 none\nc 2 10 1\n> ab 0 1 0\n> bc 1 2 1\nend\n",
+        ),
+        (
+            &[
+                "earliest",
+                "--source",
+                "central",
+                "--from",
+                "1699999990000",
+                "--path",
+                "harbour",
+                "--at",
+                "1700001020000",
+            ],
+            TIMETABLE,
+            b"graphite earliest steps 4\nharbour 1700001020000 1700001020000\n> t1 1700000000000 1700000300000 1\n> t2 1700000420000 1700001020000 1\nend\n",
+        ),
+        (
+            &["latest", "--target", "c", "--report", "paths"],
+            STOPS,
+            b"graphite latest steps 4\na 0 5 4\n> ab 4 5 1\n> bc 6 7 1\na 5 10 none\nb 0 7 6\n> bc 6 7 1\nb 7 10 none\nc 2 8 7\nend\n",
+        ),
+        (
+            &["reach", "--source", "a", "--path", "c", "--at", "3"],
+            STOPS,
+            b"graphite reach steps 4\nc 3 none\nend\n",
+        ),
+        (
+            &[
+                "fastest", "--source", "a", "--until", "2", "--report", "paths",
+            ],
+            STOPS,
+            b"graphite fastest steps 4\na 0 1 0\na 1 10 1\n= a 0 0 0\nb 0 1 none\nb 1 2 0\n> ab 0 1 1\nb 2 10 1\n> ab 1 2 1\n= b 1 0 1\nc 2 4 none\nc 4 8 1\n> ab 1 2 1\n> bc 3 4 1\n= c 3 1 4\nend\n",
+        ),
+    ];
+    for (words, text, written) in cases {
+        expect_run(&rt, rt.alloc(), words, text, Status::Done, written)?;
+    }
+    Ok(())
+}
+
 /// Windows of as many instants as the fastest journeys may have, and of one more, on a graph that is long enough.
 #[test]
 fn windows_at_their_limit(rt: HostRuntime) -> Result<(), Fail> {
@@ -122,7 +176,9 @@ fn windows_at_their_limit(rt: HostRuntime) -> Result<(), Fail> {
             b"refused query 3\n",
         ),
         (
-            &["fastest", "--source", "central", "--until", "4097", "--from", "1", "--at", "4096"],
+            &[
+                "fastest", "--source", "central", "--until", "4097", "--from", "1", "--at", "4096",
+            ],
             TIMETABLE,
             Status::Done,
             b"graphite fastest steps 4\ncentral 4096\nmuseum none\nharbour none\nend\n",
@@ -137,7 +193,7 @@ fn windows_at_their_limit(rt: HostRuntime) -> Result<(), Fail> {
 /// Budgets that end too early, and queries whose instants do not fit.
 #[test]
 fn journeys_that_are_refused(rt: HostRuntime) -> Result<(), Fail> {
-    let cases: [(&[&str], Status, &[u8]); 6] = [
+    let cases: [(&[&str], Status, &[u8]); 9] = [
         (
             &["cheapest", "--source", "a", "--steps", "2"],
             Status::Budget,
@@ -168,6 +224,22 @@ fn journeys_that_are_refused(rt: HostRuntime) -> Result<(), Fail> {
             &["earliest", "--source", "a", "--from", "5", "--until", "5"],
             Status::QueryRefused,
             b"refused query 3\n",
+        ),
+        // the vertex whose journey is to be told
+        (
+            &["earliest", "--source", "a", "--path", "z", "--at", "6"],
+            Status::QueryRefused,
+            b"refused query 1\n",
+        ),
+        (
+            &["earliest", "--source", "a", "--path", "c", "--at", "10"],
+            Status::QueryRefused,
+            b"refused query 2\n",
+        ),
+        (
+            &["earliest", "--source", "a", "--path", "c", "--at", "1"],
+            Status::QueryRefused,
+            b"refused query 4\n",
         ),
     ];
     for (words, status, written) in cases {

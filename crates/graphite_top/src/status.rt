@@ -11,7 +11,8 @@ pub enum Status {
     /// The words are no command; a refusal was written, and the source was not touched.
     WordsRefused,
     /// The text was accepted, and its graph has not the vertex that the words name, or ends before an instant
-    /// that they give, or the window that they give holds no instant; a refusal was written.
+    /// that they give, or the window that they give holds no instant, or the vertex whose journey is to be told is not
+    /// alive then; a refusal was written.
     QueryRefused,
     /// The values of a program of journeys are not settled within the supersteps allowed; a refusal was written.
     Budget,

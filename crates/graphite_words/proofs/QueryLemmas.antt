@@ -1,5 +1,5 @@
 -- What is known of every query.
-use Rattle.std.proofs.Common.{◌≡◌, ◌∙◌, ◌≤◌, ◌&&◌, ◌||◌, ℕ, Bool, true, false, List, ◌∷◌, codes, Option, Some, None, arith, refl, ap, subst, sym}
+use Rattle.std.proofs.Common.{◌≡◌, ◌∙◌, ◌≤◌, ◌&&◌, ◌||◌, ℕ, Bool, true, false, not, List, ◌∷◌, codes, Option, Some, None, arith, refl, ap, subst, sym}
 use Rattle.std.specs.Prelude.{is_some, nat_le, option_map, option_and_then, unwrap_or, if◌then◌else◌, IfSome, IsSome, IsTrue}
 use Rattle.std.specs.List.{list_any}
 use Rattle.std.specs.Option.{option_or}
@@ -9,12 +9,13 @@ use Rattle.std.proofs.lemmas.Option.{cond_some, option_and_then_some, same_Some}
 use Rattle.clap.specs.Words.{Row as Match}
 use Rattle.graphite_base.specs.Numbers.{is_canonical, number_in, value_of}
 use Rattle.graphite_time.specs.declared.TheConstants.{LAST}
-use Rattle.graphite_words.specs.declared.query.Report.TheVariants.{Intervals, Sums, At}
+use Rattle.graphite_words.specs.declared.query.Report.{Report}
+use Rattle.graphite_words.specs.declared.query.Report.TheVariants.{Intervals, Paths, Sums, At, PathAt}
 use Rattle.graphite_words.specs.declared.table.Command.{Command}
 use Rattle.graphite_words.specs.Table.{command_of, row_of, wants_vertex}
-use Rattle.graphite_words.specs.Words.{PlainGiven, PlainQuery, given_in, has_only_taken, has_wanted, instant_in, instant_of, is_as_wanted, is_dashes, is_there, kind_in, matches_in, query_by, query_of, query_with, report_of, steps_of, takes}
+use Rattle.graphite_words.specs.Words.{PlainGiven, PlainQuery, TellsPaths, given_in, has_only_taken, has_wanted, instant_in, instant_of, is_as_wanted, is_dashes, is_taken, is_there, kind_in, matches_in, names_paths, query_by, query_of, query_with, report_of, steps_of, takes, tells_paths}
 
--- what is wanted is there, and instants are in time
+-- what is wanted is there, instants are in time, and paths are told only where they are taken
 pub record IsWhole (query : PlainQuery) : Type 0 where
   pub vertex : IsTrue (wants_vertex (row_of query.command)) → IsSome query.vertex
   pub key : IsTrue (row_of query.command).wants_key → IsSome query.key
@@ -22,6 +23,9 @@ pub record IsWhole (query : PlainQuery) : Type 0 where
   pub from : query.from ≤ LAST
   pub until : IfSome query.until (λ t. t ≤ LAST)
   pub instant : (t : ℕ) → query.report ≡ At t → t ≤ LAST
+  pub told : (t : ℕ) → query.report ≡ PathAt t → IsSome query.told
+  pub told_instant : (t : ℕ) → query.report ≡ PathAt t → t ≤ LAST
+  pub paths : TellsPaths query.report → IsTrue (row_of query.command).takes_paths
 
 -- what stands only where a test is passed
 kept : {A : Type 0} (test : Bool) (value : Option A) (found : A) → (if test then value else None) ≡ Some found → (test ≡ true) × (value ≡ Some found)
@@ -50,25 +54,59 @@ first_instant : (given : Option ℕ) → IfSome given (λ t. t ≤ LAST) → unw
 first_instant None known = omega arith
 first_instant (Some t) known = known
 
--- a kind of report is no instant
-no_instant : (text : List ℕ) (t : ℕ) → kind_in text ≡ Some (At t) → ⊥
-no_instant text t found = go (bytes_eq text (codes "intervals")) (bytes_eq text (codes "sums")) found
-  where
-    go : (a b : Bool) → (if a then Some Intervals else (if b then Some Sums else None)) ≡ Some (At t) → ⊥
-    go true b found = cc
-    go false true found = cc
-    go false false found = cc
+-- a kind of report is told by no instant, and tells paths only by its name
+record IsKind (text : List ℕ) (report : Report) : Type 0 where
+  instant : (t : ℕ) → report ≡ At t → ⊥
+  told : (t : ℕ) → report ≡ PathAt t → ⊥
+  paths : TellsPaths report → names_paths (Some text) ≡ true
 
--- an instant that is reported is in time
-in_time : (kind instant : Option (List ℕ)) (t : ℕ) → report_of kind instant ≡ Some (At t) → t ≤ LAST
-in_time None None t found = cc
-in_time (Some text) None t found = absurd (no_instant text t found)
-in_time (Some text) (Some other) t found = cc
-in_time None (Some text) t found = go (instant_in text) refl found
+is_kind : (text : List ℕ) (report : Report) → kind_in text ≡ Some report → IsKind text report
+is_kind text report found = go (bytes_eq text (codes "intervals")) (bytes_eq text (codes "paths")) (bytes_eq text (codes "sums")) report refl found
   where
-    go : (o : Option ℕ) → instant_in text ≡ o → option_map At o ≡ Some (At t) → t ≤ LAST
+    go : (a b c : Bool) (report : Report) → bytes_eq text (codes "paths") ≡ b
+        → (if a then Some Intervals else (if b then Some Paths else (if c then Some Sums else None))) ≡ Some report → IsKind text report
+    go true b c report named found = subst (IsKind text) (same_Some _ _ found) (record { instant = λ t at. cc; told = λ t at. cc; paths = λ tells. absurd tells })
+    go false true c report named found = subst (IsKind text) (same_Some _ _ found) (record { instant = λ t at. cc; told = λ t at. cc; paths = λ tells. named })
+    go false false true report named found = subst (IsKind text) (same_Some _ _ found) (record { instant = λ t at. cc; told = λ t at. cc; paths = λ tells. absurd tells })
+    go false false false report named found = cc
+
+-- an instant that is read is in time
+read_in_time : (made : ℕ → Report) (text : List ℕ) (report : Report) → option_map made (instant_in text) ≡ Some report
+    → (t : ℕ) × (t ≤ LAST) × (report ≡ made t)
+read_in_time made text report found = go (instant_in text) refl found
+  where
+    go : (o : Option ℕ) → instant_in text ≡ o → option_map made o ≡ Some report → (t : ℕ) × (t ≤ LAST) × (report ≡ made t)
     go None same found = cc
-    go (Some n) same found = within LAST t text (same ∙ ap Some (cc))
+    go (Some n) same found = (n, within LAST n text same, sym (same_Some _ _ found))
+
+-- what is known of a report: one path is told of a vertex that is given, at an instant, which is in time
+record IsRead (kind path : Option (List ℕ)) (report : Report) : Type 0 where
+  instant : (t : ℕ) → report ≡ At t → t ≤ LAST
+  told : (t : ℕ) → report ≡ PathAt t → is_some path ≡ true
+  told_instant : (t : ℕ) → report ≡ PathAt t → t ≤ LAST
+  paths : TellsPaths report → (is_some path || names_paths kind) ≡ true
+
+is_read_report : (kind instant path : Option (List ℕ)) (report : Report) → report_of kind instant path ≡ Some report → IsRead kind path report
+is_read_report None None None report found =
+    subst (IsRead None None) (same_Some _ _ found) (record { instant = λ t at. cc; told = λ t at. cc; told_instant = λ t at. cc; paths = λ tells. absurd tells })
+is_read_report (Some kind) None None report found =
+    let known = is_kind kind report found in
+    record { instant = λ t at. absurd (known.instant t at); told = λ t at. absurd (known.told t at); told_instant = λ t at. absurd (known.told t at); paths = known.paths }
+is_read_report None (Some text) None report found =
+    let read = read_in_time At text report found in
+    subst (IsRead None None) (sym read.2) (record { instant = λ t at. subst (λ n. n ≤ LAST) (cc) read.1; told = λ t at. cc; told_instant = λ t at. cc; paths = λ tells. absurd tells })
+is_read_report None (Some text) (Some name) report found =
+    let read = read_in_time PathAt text report found in
+    subst (IsRead None (Some name)) (sym read.2) (record { instant = λ t at. cc; told = λ t at. refl; told_instant = λ t at. subst (λ n. n ≤ LAST) (cc) read.1; paths = λ tells. refl })
+is_read_report (Some kind) (Some text) path report found = cc
+is_read_report None None (Some name) report found = cc
+is_read_report (Some kind) None (Some name) report found = cc
+
+-- paths that are told are taken
+taken_paths : (takes tells : Bool) → (takes || not tells) ≡ true → tells ≡ true → takes ≡ true
+taken_paths true tells fits told = refl
+taken_paths false true fits told = cc
+taken_paths false false fits told = cc
 
 -- what is wanted is given
 wanted : (wants : Bool) (value : Option (List ℕ)) → is_as_wanted wants value ≡ true → wants ≡ true → is_some value ≡ true
@@ -112,25 +150,41 @@ all_four true true false d all = cc
 all_four true false c d all = cc
 all_four false b c d all = cc
 
+-- the last test of what is taken is passed
+all_six : (a b c d e f : Bool) → (a && b && c && d && e && f) ≡ true → f ≡ true
+all_six true true true true true f all = all
+all_six true true true true false f all = cc
+all_six true true true false e f all = cc
+all_six true true false d e f all = cc
+all_six true false c d e f all = cc
+all_six false b c d e f all = cc
+
 -- what a program makes of what is given is whole
 pub whole_with : (command : Command) (given : PlainGiven) (query : PlainQuery) → query_with command given ≡ Some query → IsWhole query
 whole_with command given query found =
     let row = row_of command in
     let passed = kept (takes row given) _ query found in
+    let fits = and_parts (has_wanted row given) (has_only_taken row given) passed.0 in
     let parts = all_four (is_as_wanted row.wants_source given.source) (is_as_wanted row.wants_target given.target)
     (is_as_wanted row.wants_key given.key) (is_there row.wants_until given.until)
-    (and_parts (has_wanted row given) (has_only_taken row given) passed.0).0 in
+    fits.0 in
+    let taken : (row.takes_paths || not (tells_paths given)) ≡ true = all_six (is_taken row.takes_window given.from) (is_taken row.takes_window given.until)
+    (is_taken row.takes_steps given.steps) (is_taken row.takes_report given.report) (is_taken row.takes_report given.at) (row.takes_paths || not (tells_paths given)) fits.1 in
     option_and_then_some _ (instant_of given.from) query passed.1 (λ from from-read after-from.
     option_and_then_some _ (instant_of given.until) query after-from (λ until until-read after-until.
     option_and_then_some _ (steps_of given.steps) query after-until (λ steps steps-read after-steps.
-    option_and_then_some _ (report_of given.report given.at) query after-steps (λ report report-read made.
+    option_and_then_some _ (report_of given.report given.at given.path) query after-steps (λ report report-read made.
+    let read = is_read_report given.report given.at given.path report report-read in
     subst IsWhole (same_Some _ query made) (record {
       vertex = wanted_vertex row.wants_source row.wants_target given.source given.target parts.source parts.target;
       key = wanted row.wants_key given.key parts.key;
       wanted_until = wanted_end row.wants_until given.until until parts.until until-read;
       from = first_instant from (instants given.from from from-read);
       until = instants given.until until until-read;
-      instant = λ t at. in_time given.report given.at t (report-read ∙ ap Some at);
+      instant = read.instant;
+      told = read.told;
+      told_instant = read.told_instant;
+      paths = λ tells. taken_paths row.takes_paths (tells_paths given) taken (read.paths tells);
     })))))
 
 -- and so is what is given

@@ -1,56 +1,56 @@
 -- What some lists of words ask for, by the definition.
 use Rattle.std.proofs.Common.{◌≡◌, [], ◌∷◌, Some, None, codes, refl}
 use Rattle.clap.proofs.OnLiterals.{clap_on_literals}
-use Rattle.graphite_words.specs.declared.query.Report.TheVariants.{Intervals, Sums, At}
+use Rattle.graphite_words.specs.declared.query.Report.TheVariants.{Intervals, Paths, Sums, At, PathAt}
 use Rattle.graphite_words.specs.declared.table.Command.TheVariants.{Degree, Bfs, Max, Reach, Earliest, Cheapest, Fastest, Latest}
 use Rattle.graphite_words.specs.Words.{graphite_command, matches_in, query_of}
 
-option_with_its_value : query_of (codes "bfs" ∷ codes "--source=-x" ∷ []) ≡ Some (record { command = Bfs; vertex = Some (codes "-x"); key = None; from = 0; until = None; steps = None; report = Intervals })
+option_with_its_value : query_of (codes "bfs" ∷ codes "--source=-x" ∷ []) ≡ Some (record { command = Bfs; vertex = Some (codes "-x"); key = None; from = 0; until = None; steps = None; report = Intervals; told = None })
 unfolding graphite_command matches_in clap_on_literals
 option_with_its_value = refl
 
 options_in_any_order : query_of (codes "--report" ∷ codes "sums" ∷ codes "max" ∷ codes "--key" ∷ codes "load" ∷ [])
-    ≡ Some (record { command = Max; vertex = None; key = Some (codes "load"); from = 0; until = None; steps = None; report = Sums })
+    ≡ Some (record { command = Max; vertex = None; key = Some (codes "load"); from = 0; until = None; steps = None; report = Sums; told = None })
 unfolding graphite_command matches_in clap_on_literals
 options_in_any_order = refl
 
 last_instant : query_of (codes "degree" ∷ codes "--at" ∷ codes "17592186044416" ∷ [])
-    ≡ Some (record { command = Degree; vertex = None; key = None; from = 0; until = None; steps = None; report = At 17592186044416 })
+    ≡ Some (record { command = Degree; vertex = None; key = None; from = 0; until = None; steps = None; report = At 17592186044416; told = None })
 unfolding graphite_command matches_in clap_on_literals
 last_instant = refl
 
 whole_window : query_of (codes "earliest" ∷ codes "--source" ∷ codes "a" ∷ [])
-    ≡ Some (record { command = Earliest; vertex = Some (codes "a"); key = None; from = 0; until = None; steps = None; report = Intervals })
+    ≡ Some (record { command = Earliest; vertex = Some (codes "a"); key = None; from = 0; until = None; steps = None; report = Intervals; told = None })
 unfolding graphite_command matches_in clap_on_literals
 whole_window = refl
 
 window_given : query_of (codes "reach" ∷ codes "--source" ∷ codes "a" ∷ codes "--from" ∷ codes "4" ∷ codes "--until" ∷ codes "5" ∷ [])
-    ≡ Some (record { command = Reach; vertex = Some (codes "a"); key = None; from = 4; until = Some 5; steps = None; report = Intervals })
+    ≡ Some (record { command = Reach; vertex = Some (codes "a"); key = None; from = 4; until = Some 5; steps = None; report = Intervals; told = None })
 unfolding graphite_command matches_in clap_on_literals
 window_given = refl
 
 journey_of_two_steps : query_of (codes "cheapest" ∷ codes "--source" ∷ codes "a" ∷ codes "--steps" ∷ codes "2" ∷ [])
-    ≡ Some (record { command = Cheapest; vertex = Some (codes "a"); key = None; from = 0; until = None; steps = Some 2; report = Intervals })
+    ≡ Some (record { command = Cheapest; vertex = Some (codes "a"); key = None; from = 0; until = None; steps = Some 2; report = Intervals; told = None })
 unfolding graphite_command matches_in clap_on_literals
 journey_of_two_steps = refl
 
 arrival_at_an_instant : query_of (codes "earliest" ∷ codes "--source=a" ∷ codes "--at=3" ∷ [])
-    ≡ Some (record { command = Earliest; vertex = Some (codes "a"); key = None; from = 0; until = None; steps = None; report = At 3 })
+    ≡ Some (record { command = Earliest; vertex = Some (codes "a"); key = None; from = 0; until = None; steps = None; report = At 3; told = None })
 unfolding graphite_command matches_in clap_on_literals
 arrival_at_an_instant = refl
 
 end_of_the_window : query_of (codes "fastest" ∷ codes "--source" ∷ codes "a" ∷ codes "--until" ∷ codes "5" ∷ [])
-    ≡ Some (record { command = Fastest; vertex = Some (codes "a"); key = None; from = 0; until = Some 5; steps = None; report = Intervals })
+    ≡ Some (record { command = Fastest; vertex = Some (codes "a"); key = None; from = 0; until = Some 5; steps = None; report = Intervals; told = None })
 unfolding graphite_command matches_in clap_on_literals
 end_of_the_window = refl
 
 whole_window_at_a_target : query_of (codes "latest" ∷ codes "--target" ∷ codes "c" ∷ [])
-    ≡ Some (record { command = Latest; vertex = Some (codes "c"); key = None; from = 0; until = None; steps = None; report = Intervals })
+    ≡ Some (record { command = Latest; vertex = Some (codes "c"); key = None; from = 0; until = None; steps = None; report = Intervals; told = None })
 unfolding graphite_command matches_in clap_on_literals
 whole_window_at_a_target = refl
 
 window_at_a_target : query_of (codes "latest" ∷ codes "--target=c" ∷ codes "--from" ∷ codes "1" ∷ codes "--until" ∷ codes "9" ∷ [])
-    ≡ Some (record { command = Latest; vertex = Some (codes "c"); key = None; from = 1; until = Some 9; steps = None; report = Intervals })
+    ≡ Some (record { command = Latest; vertex = Some (codes "c"); key = None; from = 1; until = Some 9; steps = None; report = Intervals; told = None })
 unfolding graphite_command matches_in clap_on_literals
 window_at_a_target = refl
 
@@ -109,3 +109,29 @@ target_for_a_source = refl
 no_target : query_of (codes "latest" ∷ []) ≡ None
 unfolding graphite_command matches_in clap_on_literals
 no_target = refl
+
+every_path : query_of (codes "earliest" ∷ codes "--source" ∷ codes "a" ∷ codes "--report" ∷ codes "paths" ∷ [])
+    ≡ Some (record { command = Earliest; vertex = Some (codes "a"); key = None; from = 0; until = None; steps = None; report = Paths; told = None })
+unfolding graphite_command matches_in clap_on_literals
+every_path = refl
+
+one_path : query_of (codes "earliest" ∷ codes "--source" ∷ codes "a" ∷ codes "--path" ∷ codes "b" ∷ codes "--at" ∷ codes "3" ∷ [])
+    ≡ Some (record { command = Earliest; vertex = Some (codes "a"); key = None; from = 0; until = None; steps = None; report = PathAt 3; told = Some (codes "b") })
+unfolding graphite_command matches_in clap_on_literals
+one_path = refl
+
+paths_of_a_program_of_snapshots : query_of (codes "bfs" ∷ codes "--source" ∷ codes "a" ∷ codes "--report" ∷ codes "paths" ∷ []) ≡ None
+unfolding graphite_command matches_in clap_on_literals
+paths_of_a_program_of_snapshots = refl
+
+one_path_of_a_program_of_snapshots : query_of (codes "degree" ∷ codes "--path" ∷ codes "b" ∷ codes "--at" ∷ codes "3" ∷ []) ≡ None
+unfolding graphite_command matches_in clap_on_literals
+one_path_of_a_program_of_snapshots = refl
+
+path_without_an_instant : query_of (codes "earliest" ∷ codes "--source" ∷ codes "a" ∷ codes "--path" ∷ codes "b" ∷ []) ≡ None
+unfolding graphite_command matches_in clap_on_literals
+path_without_an_instant = refl
+
+path_and_a_kind : query_of (codes "earliest" ∷ codes "--source" ∷ codes "a" ∷ codes "--path" ∷ codes "b" ∷ codes "--at" ∷ codes "3" ∷ codes "--report" ∷ codes "paths" ∷ []) ≡ None
+unfolding graphite_command matches_in clap_on_literals
+path_and_a_kind = refl

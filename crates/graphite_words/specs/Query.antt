@@ -21,6 +21,7 @@ plain_row row = record {
   wants_until = row.wants_until;
   takes_steps = row.takes_steps;
   takes_report = row.takes_report;
+  takes_paths = row.takes_paths;
   usual_steps = number_given row.usual_steps;
 }
 
@@ -36,6 +37,7 @@ plain_given given = record {
   steps = option_map (λ text. text.now) given.steps;
   report = option_map (λ text. text.now) given.report;
   at = option_map (λ text. text.now) given.at;
+  path = option_map (λ text. text.now) given.path;
 }
 
 -- what a query of the code asks for
@@ -48,4 +50,5 @@ plain_query query = record {
   until = query.until;
   steps = number_given query.steps;
   report = query.report;
+  told = query.told;
 }

@@ -8,7 +8,8 @@ use Rattle.graphite_words.specs.declared.table.Command.TheVariants.{Degree, Bfs,
 -- whether it leads to a vertex, whose name has to be given; whether it reads a property, whose key has to be given;
 -- whether it may be given a window of instants, by the first one and the end; whether that end has to be given; whether it
 -- may be given the number of supersteps allowed; whether it may be told what to report, by a kind of report or an instant;
--- and how many supersteps are allowed where that is not given: none stands for one more than the vertices have lifespans.
+-- whether it may be told to report paths, of all vertices by the kind of report or of one by its name; and how many
+-- supersteps are allowed where that is not given: none stands for one more than the vertices have lifespans.
 pub record PlainRow : Type 0 where
   pub word : List ℕ
   pub wants_source : Bool
@@ -18,6 +19,7 @@ pub record PlainRow : Type 0 where
   pub wants_until : Bool
   pub takes_steps : Bool
   pub takes_report : Bool
+  pub takes_paths : Bool
   pub usual_steps : Option ℕ
 
 -- the name of a vertex has to be given
@@ -35,6 +37,7 @@ row_named word = record {
   wants_until = false;
   takes_steps = false;
   takes_report = false;
+  takes_paths = false;
   usual_steps = None;
 }
 
@@ -42,9 +45,9 @@ row_named word = record {
 abbrev pub row_with_steps : (word : List ℕ) → PlainRow
 row_with_steps word = record (row_named word) { takes_steps = true; takes_report = true }
 
--- and a window besides
+-- and a window besides: a program of journeys, which alone have paths
 abbrev pub row_with_window : (word : List ℕ) → PlainRow
-row_with_window word = record (row_with_steps word) { takes_window = true }
+row_with_window word = record (row_with_steps word) { takes_window = true; takes_paths = true }
 
 -- the table of programs
 abbrev pub row_of : Command → PlainRow

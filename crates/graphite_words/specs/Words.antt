@@ -1,6 +1,6 @@
 -- What the words ask for. How a list of words is read is the published definition of `clap` for a simple command; what
 -- the program asks of a list that is read stands here.
-use Rattle.std.specs.Prelude.{ℕ, Bool, true, ◌||◌, ◌&&◌, ◌==◌, is_none, is_some, List, [], ◌∷◌, codes, Option, Some, None, option_map, option_and_then, unwrap_or, if◌then◌else◌}
+use Rattle.std.specs.Prelude.{ℕ, ⊤, Bool, true, false, not, ◌||◌, ◌&&◌, ◌==◌, is_none, is_some, List, [], ◌∷◌, codes, Option, Some, None, option_map, option_and_then, unwrap_or, if◌then◌else◌}
 use Rattle.std.specs.List.{list_any}
 use Rattle.std.specs.Option.{option_or}
 use Rattle.std.specs.Str.{bytes_eq}
@@ -12,7 +12,7 @@ use Rattle.graphite_api.specs.declared.TheConstants.{STEP_LIMIT}
 use Rattle.graphite_time.specs.declared.TheConstants.{LAST}
 use Rattle.graphite_words.specs.declared.table.Command.{Command}
 use Rattle.graphite_words.specs.declared.query.Report.{Report}
-use Rattle.graphite_words.specs.declared.query.Report.TheVariants.{Intervals, Sums, At}
+use Rattle.graphite_words.specs.declared.query.Report.TheVariants.{Intervals, Paths, Sums, At, PathAt}
 use Rattle.graphite_words.specs.Table.{PlainRow, command_of, row_of}
 
 -- ---- how the words are read
@@ -24,7 +24,7 @@ option_rule name = record (new_rule name) { long = Some name; action = Some Set 
 -- the command that `clap` reads: the word of a program, and options
 unfoldable pub graphite_command : App
 graphite_command =
-    with_rule (with_rule (with_rule (with_rule (with_rule (with_rule (with_rule (with_rule (with_rule (new_app (codes "graphite"))
+    with_rule (with_rule (with_rule (with_rule (with_rule (with_rule (with_rule (with_rule (with_rule (with_rule (new_app (codes "graphite"))
     (new_rule (codes "program")))
     (option_rule (codes "source")))
     (option_rule (codes "target")))
@@ -33,7 +33,8 @@ graphite_command =
     (option_rule (codes "until")))
     (option_rule (codes "steps")))
     (option_rule (codes "report")))
-    (option_rule (codes "at"))
+    (option_rule (codes "at")))
+    (option_rule (codes "path"))
 
 -- `-` or `--`
 abbrev pub is_dashes : Text → Bool
@@ -59,6 +60,7 @@ pub record PlainGiven : Type 0 where
   pub steps : Option Text
   pub report : Option Text
   pub at : Option Text
+  pub path : Option Text
 
 -- what the words give
 abbrev pub given_in : List Match → PlainGiven
@@ -72,13 +74,14 @@ given_in found = record {
   steps = first_of (codes "steps") found;
   report = first_of (codes "report") found;
   at = first_of (codes "at") found;
+  path = first_of (codes "path") found;
 }
 
 -- ---- what is asked for
 
 -- A program, with the options that it takes: the name of the vertex to start from or to lead to, the key of the property
 -- to read, the window of instants from the first one to before its end, which is the horizon where none is given, the
--- number of supersteps allowed, and what to report.
+-- number of supersteps allowed, what to report, and the name of the vertex whose path is told, where one path is.
 pub record PlainQuery : Type 0 where
   pub command : Command
   pub vertex : Option Text
@@ -87,6 +90,7 @@ pub record PlainQuery : Type 0 where
   pub until : Option ℕ
   pub steps : Option ℕ
   pub report : Report
+  pub told : Option Text
 
 -- an option is given exactly where it is wanted
 abbrev pub is_as_wanted : Bool → Option Text → Bool
@@ -105,10 +109,19 @@ abbrev pub has_wanted : PlainRow → PlainGiven → Bool
 has_wanted row given = is_as_wanted row.wants_source given.source && is_as_wanted row.wants_target given.target
     && is_as_wanted row.wants_key given.key && is_there row.wants_until given.until
 
--- the other options are given only where they are taken
+-- whether paths are to be told: of one vertex, or by the kind of report
+abbrev pub names_paths : Option Text → Bool
+names_paths None = false
+names_paths (Some value) = bytes_eq value (codes "paths")
+
+abbrev pub tells_paths : PlainGiven → Bool
+tells_paths given = is_some given.path || names_paths given.report
+
+-- the other options are given only where they are taken, and paths are told only where they are
 abbrev pub has_only_taken : PlainRow → PlainGiven → Bool
 has_only_taken row given = is_taken row.takes_window given.from && is_taken row.takes_window given.until
     && is_taken row.takes_steps given.steps && is_taken row.takes_report given.report && is_taken row.takes_report given.at
+    && (row.takes_paths || not (tells_paths given))
 
 -- each option that is wanted is given, and none that is not taken
 abbrev pub takes : PlainRow → PlainGiven → Bool
@@ -135,14 +148,22 @@ steps_of (Some value) = option_map Some (steps_in value)
 -- the kind of report that a value names
 abbrev pub kind_in : Text → Option Report
 kind_in value = if bytes_eq value (codes "intervals") then Some Intervals
-    else (if bytes_eq value (codes "sums") then Some Sums else None)
+    else (if bytes_eq value (codes "paths") then Some Paths
+    else (if bytes_eq value (codes "sums") then Some Sums else None))
 
--- the report, by its kind or its instant, which are not both given
-abbrev pub report_of : (kind instant : Option Text) → Option Report
-report_of None None = Some Intervals
-report_of (Some value) None = kind_in value
-report_of None (Some value) = option_map At (instant_in value)
-report_of (Some value) (Some other) = None
+-- the report, by its kind or its instant, which are not both given; a vertex whose path is told is given with an instant alone
+abbrev pub report_of : (kind instant path : Option Text) → Option Report
+report_of None None None = Some Intervals
+report_of (Some value) None None = kind_in value
+report_of None (Some value) None = option_map At (instant_in value)
+report_of None (Some value) (Some name) = option_map PathAt (instant_in value)
+report_of kind instant path = None
+
+-- a report that tells paths
+abbrev pub TellsPaths : Report → Type 0
+TellsPaths Paths = ⊤
+TellsPaths (PathAt t) = ⊤
+TellsPaths report = ⊥
 
 -- what is made of a value, where it has the form that it is to have
 abbrev pub read_then : {X : Type 0} → Option X → (X → Option PlainQuery) → Option PlainQuery
@@ -154,7 +175,7 @@ query_with command given = if takes (row_of command) given
     then read_then (instant_of given.from) (λ from.
     read_then (instant_of given.until) (λ until.
     read_then (steps_of given.steps) (λ steps.
-    read_then (report_of given.report given.at) (λ report. Some (record {
+    read_then (report_of given.report given.at given.path) (λ report. Some (record {
       command = command;
       vertex = option_or given.source given.target;
       key = given.key;
@@ -162,6 +183,7 @@ query_with command given = if takes (row_of command) given
       until = until;
       steps = steps;
       report = report;
+      told = given.path;
     })))))
     else None
 

@@ -3,7 +3,7 @@ ghost use Rattle.std.specs.Prelude.{◌≡◌, option_map};
 ghost use Rattle.std.specs.Option.{option_or};
 ghost use Rattle.clap.specs.Words.{found_of, rows_of};
 ghost use Rattle.graphite_words.specs.Query.{plain_given, plain_row};
-ghost use Rattle.graphite_words.specs.Words.{given_in, has_only_taken, has_wanted, is_taken, takes};
+ghost use Rattle.graphite_words.specs.Words.{given_in, has_only_taken, has_wanted, is_taken, names_paths, takes, tells_paths};
 
 use crate::table::Row;
 use clap::ArgMatches;
@@ -20,6 +20,7 @@ pub struct Given<'w> {
     pub steps: Option<&'w str>,
     pub report: Option<&'w str>,
     pub at: Option<&'w str>,
+    pub path: Option<&'w str>,
 }
 
 impl<'w> Given<'w> {
@@ -37,6 +38,7 @@ impl<'w> Given<'w> {
             steps: matches.get_str("steps"),
             report: matches.get_str("report"),
             at: matches.get_str("at"),
+            path: matches.get_str("path"),
         }
     }
 
@@ -65,7 +67,7 @@ impl<'w> Given<'w> {
             && (self.until.is_some() || !row.wants_until)
     }
 
-    /// Whether the other options are given only where they are taken.
+    /// Whether the other options are given only where they are taken, and paths are told only where they are.
     fn has_only_taken(self, row: Row) -> bool
         ensures { result ≡ has_only_taken (plain_row row) (plain_given self.entry) }
     {
@@ -74,6 +76,24 @@ impl<'w> Given<'w> {
             && is_taken(row.takes_steps, self.steps)
             && is_taken(row.takes_report, self.report)
             && is_taken(row.takes_report, self.at)
+            && (row.takes_paths || !self.tells_paths())
+    }
+
+    /// Whether paths are to be told: of one vertex, or by the kind of report.
+    fn tells_paths(self) -> bool
+        ensures { result ≡ tells_paths (plain_given self.entry) }
+    {
+        self.path.is_some() || names_paths(self.report)
+    }
+}
+
+/// Whether this is the kind of report that tells paths.
+fn names_paths(report: Option<&str>) -> bool
+    ensures { result ≡ names_paths (option_map (λ v. v.now) report.entry) }
+{
+    match report {
+        Some(value) => value == "paths",
+        None => false,
     }
 }
 

@@ -59,7 +59,8 @@ fn graphite_command<'w>(alloc: Global) -> Result<clap::Command<'w>, AllocError>
         .arg(option(alloc, "until"))?
         .arg(option(alloc, "steps"))?
         .arg(option(alloc, "report"))?
-        .arg(option(alloc, "at"))
+        .arg(option(alloc, "at"))?
+        .arg(option(alloc, "path"))
 }
 
 /// An option that takes one value.

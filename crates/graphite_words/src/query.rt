@@ -3,7 +3,7 @@ ghost use Rattle.std.specs.Prelude.{◌≡◌, ◌≤◌, ℕ, None, Some, map, 
 ghost use Rattle.graphite_time.specs.declared.TheConstants.{LAST};
 ghost use Rattle.graphite_words.specs.Query.{plain_given, plain_query};
 ghost use Rattle.graphite_words.specs.Table.{row_of, wants_vertex};
-ghost use Rattle.graphite_words.specs.Words.{query_by, query_of, query_with};
+ghost use Rattle.graphite_words.specs.Words.{query_by, query_of, query_with, TellsPaths};
 
 use crate::fault::WordsFault;
 use crate::given::Given;
@@ -20,10 +20,14 @@ use std::alloc::Global;
 pub enum Report {
     /// The value of each vertex in each interval of its life.
     Intervals,
+    /// The same, and the journey of each value, hop by hop.
+    Paths,
     /// Sums of the values.
     Sums,
     /// The value of each vertex at an instant.
     At(u64),
+    /// The value of one vertex at an instant, and the journey of that value, hop by hop.
+    PathAt(u64),
 }
 
 /// What the words ask for: a program with the options that it takes.
@@ -41,12 +45,14 @@ pub struct Query {
     /// The number of supersteps allowed.
     pub steps: Option<Steps>,
     pub report: Report,
+    /// The name of the vertex whose path is told: there where the report is [`Report::PathAt`], and else not.
+    pub told: Option<Bytes>,
 }
 
 /// What the words ask for, which are those after the program's own name. They are refused exactly where
 /// one is `-` or `--` alone; where `clap` finds a fault in them, a request for help among those; or
 /// where they name no program of the table, give an option that it does not take or the value of one in
-/// no form that it has, or leave out one that it wants. A name or a key is taken as it is.
+/// no form that it has, or leave out one that it wants, or the instant of a path. A name or a key is taken as it is.
 pub fn query_of(alloc: Global, words: &[String]) -> Result<Query, WordsFault>
     ensures asked { IfOk result (λ query. query_of (map string_bytes words.now) ≡ Some (plain_query query)) }
     ensures refused { IsErrOf result WordsFault.Refused → query_of (map string_bytes words.now) ≡ None }
@@ -58,6 +64,11 @@ pub fn query_of(alloc: Global, words: &[String]) -> Result<Query, WordsFault>
     ensures from { IfOk result (λ query. query.from ≤ LAST) }
     ensures until { IfOk result (λ query. IfSome query.until (λ t. t ≤ LAST)) }
     ensures instant { (t : ℕ) → IfOk result (λ query. query.report ≡ Report.At t → t ≤ LAST) }
+
+    // Where one path is told, its vertex is named and its instant in time; and only programs that take paths tell them.
+    ensures told { IfOk result (λ query. (t : ℕ) → query.report ≡ Report.PathAt t → IsSome query.told) }
+    ensures told_instant { (t : ℕ) → IfOk result (λ query. query.report ≡ Report.PathAt t → t ≤ LAST) }
+    ensures paths { IfOk result (λ query. TellsPaths query.report → IsTrue (row_of query.command).takes_paths) }
 {
     if has_dashes(words) {
         return Err(WordsFault::Refused);
@@ -88,7 +99,7 @@ fn query_with(alloc: Global, command: Command, given: Given<'_>) -> Result<Query
     let from = instant_of(given.from)?.unwrap_or(0);
     let until = instant_of(given.until)?;
     let steps = steps_of(given.steps)?;
-    let report = report_of(given.report, given.at).ok_or(WordsFault::Refused)?;
+    let report = report_of(given.report, given.at, given.path).ok_or(WordsFault::Refused)?;
     Ok(Query {
         command,
         vertex: bytes_of(alloc, given.vertex())?,
@@ -97,6 +108,7 @@ fn query_with(alloc: Global, command: Command, given: Given<'_>) -> Result<Query
         until,
         steps,
         report,
+        told: bytes_of(alloc, given.path)?,
     })
 }
 

@@ -54,6 +54,8 @@ pub struct Row {
     pub takes_steps: bool,
     /// Whether it may be told what to report: a kind of report, or an instant.
     pub takes_report: bool,
+    /// Whether it may be told to report paths: of all vertices by the kind of report, or of one by its name.
+    pub takes_paths: bool,
     /// How many supersteps are allowed where the words do not say it. `None` stands for one more than the
     /// vertices have lifespans.
     pub usual_steps: Option<Steps>,
@@ -123,6 +125,7 @@ fn row_named(word: &'static [u8]) -> Row
         wants_until: false,
         takes_steps: false,
         takes_report: false,
+        takes_paths: false,
         usual_steps: None,
     }
 }
@@ -138,12 +141,14 @@ fn row_with_steps(word: &'static [u8]) -> Row
     }
 }
 
-/// The row of a program with this word that may be given a window besides.
+/// The row of a program with this word that may be given a window besides: a program of journeys, which
+/// alone have paths.
 fn row_with_window(word: &'static [u8]) -> Row
     ensures { plain_row result ≡ row_with_window word.now }
 {
     Row {
         takes_window: true,
+        takes_paths: true,
         ..row_with_steps(word)
     }
 }

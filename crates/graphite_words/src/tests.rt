@@ -24,6 +24,7 @@ fn query(command: Command) -> Query {
         until: None,
         steps: None,
         report: Report::Intervals,
+        told: None,
     }
 }
 
@@ -150,8 +151,68 @@ fn words_of_journeys_that_are_accepted(rt: HostRuntime) -> Result<(), Fail> {
 }
 
 #[test]
+fn words_of_paths_that_are_accepted(rt: HostRuntime) -> Result<(), Fail> {
+    let alloc = rt.alloc();
+    let all = Query {
+        report: Report::Paths,
+        ..vertex_query(alloc, Command::Earliest, b"a")?
+    };
+    let one = Query {
+        report: Report::PathAt(3),
+        told: Some(Bytes::from_slice(alloc, b"b")?),
+        ..vertex_query(alloc, Command::Earliest, b"a")?
+    };
+    let any_name = Query {
+        report: Report::PathAt(0),
+        told: Some(Bytes::from_slice(alloc, b"-x")?),
+        ..vertex_query(alloc, Command::Latest, b"c")?
+    };
+    let cases: [(&[&str], Query); 3] = [
+        (&["earliest", "--source", "a", "--report", "paths"], all),
+        (
+            &["earliest", "--source", "a", "--path", "b", "--at", "3"],
+            one,
+        ),
+        (&["--at=0", "--path=-x", "latest", "--target=c"], any_name),
+    ];
+    for (words, query) in cases {
+        expect_query(&rt, alloc, words, Ok(query))?;
+    }
+    Ok(())
+}
+
+#[test]
+fn words_of_paths_that_are_refused(rt: HostRuntime) -> Result<(), Fail> {
+    let cases: [&[&str]; 9] = [
+        // no program of journeys
+        &["bfs", "--source", "a", "--report", "paths"],
+        &["degree", "--path", "b", "--at", "3"],
+        &["show", "--path", "b"],
+        // no instant, or none in time
+        &["earliest", "--source", "a", "--path", "b"],
+        &["earliest", "--source", "a", "--path", "b", "--at", "03"],
+        // a kind of report besides
+        &["earliest", "--source=a", "--path=b", "--report=paths"],
+        &[
+            "earliest",
+            "--source=a",
+            "--path=b",
+            "--at=3",
+            "--report=paths",
+        ],
+        &["earliest", "--source=a", "--at=3", "--report=paths"],
+        // two paths
+        &["earliest", "--source=a", "--path=b", "--path=c", "--at=3"],
+    ];
+    for words in cases {
+        expect_query(&rt, rt.alloc(), words, Err(WordsFault::Refused))?;
+    }
+    Ok(())
+}
+
+#[test]
 fn words_that_are_refused(rt: HostRuntime) -> Result<(), Fail> {
-    let cases: [&[&str]; 34] = [
+    let cases: [&[&str]; 32] = [
         // no program of the table, or more words than its own
         &[],
         &["frob"],
@@ -169,7 +230,6 @@ fn words_that_are_refused(rt: HostRuntime) -> Result<(), Fail> {
         &["latest", "--source", "c"],
         &["bfs", "--source", "a", "--from", "1"],
         &["degree", "--until", "3"],
-        &["earliest", "--source", "a", "--path", "c"],
         &["max", "--source", "a"],
         &["degree", "--colour", "red"],
         // no such number
@@ -190,7 +250,6 @@ fn words_that_are_refused(rt: HostRuntime) -> Result<(), Fail> {
         &["--", "degree"],
         // what to report
         &["degree", "--report", "paths"],
-        &["reach", "--source", "a", "--report", "paths"],
         &["degree", "--report", "sums", "--at", "1"],
     ];
     for words in cases {

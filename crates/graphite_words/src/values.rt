@@ -50,15 +50,18 @@ fn steps_in(value: &str) -> Option<Steps>
     Some(Steps::new(number as u32))
 }
 
-/// The report, by its kind or its instant, which are not both given.
-pub fn report_of(kind: Option<&str>, instant: Option<&str>) -> Option<Report>
-    ensures { result ≡ report_of (option_map (λ v. v.now) kind.entry) (option_map (λ v. v.now) instant.entry) }
+/// The report, by its kind or its instant, which are not both given; a vertex whose path is told is given
+/// with an instant alone.
+pub fn report_of(kind: Option<&str>, instant: Option<&str>, path: Option<&str>) -> Option<Report>
+    ensures { result ≡ report_of (option_map (λ v. v.now) kind.entry) (option_map (λ v. v.now) instant.entry)
+        (option_map (λ v. v.now) path.entry) }
 {
-    match (kind, instant) {
-        (None, None) => Some(Report::Intervals),
-        (Some(value), None) => kind_in(value),
-        (None, Some(value)) => Some(Report::At(instant_in(value)?)),
-        (Some(_), Some(_)) => None,
+    match (kind, instant, path) {
+        (None, None, None) => Some(Report::Intervals),
+        (Some(value), None, None) => kind_in(value),
+        (None, Some(value), None) => Some(Report::At(instant_in(value)?)),
+        (None, Some(value), Some(_)) => Some(Report::PathAt(instant_in(value)?)),
+        _ => None,
     }
 }
 
@@ -68,6 +71,7 @@ fn kind_in(value: &str) -> Option<Report>
 {
     match value {
         "intervals" => Some(Report::Intervals),
+        "paths" => Some(Report::Paths),
         "sums" => Some(Report::Sums),
         _ => None,
     }

@@ -4,6 +4,7 @@ use Rattle.graphite_words.specs.Query.{plain_query}
 use Rattle.graphite_top.specs.Answer.{text_refusal}
 use Rattle.graphite_top.specs.Output.{Known, text_output}
 use Rattle.graphite_top.specs.Call.{Answers, Gives}
+use Rattle.graphite_top.proofs.AcceptedLemmas.{words_accepted}
 use Rattle.graphite_top.proofs.CallLemmas.{for_too_long, for_whole, Answers-written, Gives-written}
 use Rattle.graphite_top.proofs.call.answer_source.Goals as goal
 
@@ -36,3 +37,8 @@ returns-in-Ok-clause-complete g c =
     for_whole (λ output. Gives c.answer_text.result output (g.K.Sink.written c.args.sink.now) (g.K.Sink.written c.answer_text.new.sink))
     (plain_query c.args.query.now) (g.S.Source.left c.args.source.now) (g.S.Source.left c.read_text.new.source) c.deref.result.now whole
     (Gives-written _ (text_output (plain_query c.args.query.now) c.deref.result.now) _ _ _ _ written memory c.answer_text.ensures.writes)
+
+pub returns-in-Ok-clause-words_accepted : goal.returns-in-Ok-clause-words_accepted
+returns-in-Ok-clause-words_accepted g c =
+    words_accepted c.answer_text.result (g.K.Sink.written c.args.sink.now) (g.K.Sink.written c.answer_text.new.sink) (g.K.Sink.faults c.args.sink.now) (g.K.Sink.faults c.answer_text.new.sink)
+    (plain_query c.args.query.now) c.deref.result.now c.answer_text.ensures.writes

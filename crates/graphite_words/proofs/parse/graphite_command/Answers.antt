@@ -16,4 +16,5 @@ returns c =
     let until = app_added _ _ _ _ (option_rule (codes "until")) c.in_ok-arg-6.ensures c.option-5.ensures.local from c.option-5.ensures.rule in
     let steps = app_added _ _ _ _ (option_rule (codes "steps")) c.in_ok-arg-7.ensures c.option-6.ensures.local until c.option-6.ensures.rule in
     let report = app_added _ _ _ _ (option_rule (codes "report")) c.in_ok-arg-8.ensures c.option-7.ensures.local steps c.option-7.ensures.rule in
-    IfOk-weaker c.arg-9.result _ _ (λ command added. app_added _ _ _ _ (option_rule (codes "at")) added c.option-8.ensures.local report c.option-8.ensures.rule) c.arg-9.ensures
+    let at = app_added _ _ _ _ (option_rule (codes "at")) c.in_ok-arg-9.ensures c.option-8.ensures.local report c.option-8.ensures.rule in
+    IfOk-weaker c.arg-10.result _ _ (λ command added. app_added _ _ _ _ (option_rule (codes "path")) added c.option-9.ensures.local at c.option-9.ensures.rule) c.arg-10.ensures

@@ -31,3 +31,12 @@ returns-clause-until c = IfOk-weaker c.query_by.result _ _ (λ query asked. (who
 
 pub returns-clause-instant : goal.returns-clause-instant
 returns-clause-instant c = λ t. IfOk-weaker c.query_by.result _ _ (λ query asked. (whole_by (plain_given c.of_matches.result) (plain_query query) asked).instant t) c.query_by.ensures.asked
+
+pub returns-clause-told : goal.returns-clause-told
+returns-clause-told c = IfOk-weaker c.query_by.result _ _ (λ query asked. (whole_by (plain_given c.of_matches.result) (plain_query query) asked).told) c.query_by.ensures.asked
+
+pub returns-clause-told_instant : goal.returns-clause-told_instant
+returns-clause-told_instant c = λ t. IfOk-weaker c.query_by.result _ _ (λ query asked. (whole_by (plain_given c.of_matches.result) (plain_query query) asked).told_instant t) c.query_by.ensures.asked
+
+pub returns-clause-paths : goal.returns-clause-paths
+returns-clause-paths c = IfOk-weaker c.query_by.result _ _ (λ query asked. (whole_by (plain_given c.of_matches.result) (plain_query query) asked).paths) c.query_by.ensures.asked

@@ -1,0 +1,10 @@
+pub mod DepartureLemmas
+pub mod EndLemmas
+pub mod ExistsLemmas
+pub mod HopLemmas
+pub mod IncomingLemmas
+pub mod SameLemmas
+pub mod StandLemmas
+pub mod StartLemmas
+pub mod StepsLemmas
+pub mod WayLemmas
