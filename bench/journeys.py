@@ -2,7 +2,7 @@
 """Times the programs of journeys beside other programs, on one processor.
 
     bench/journeys.py --peer PATH --make PATH [--scan PATH] [--program PATH] [--edges N[,N..]] [--runs N]
-                      [--only WORD[,WORD..]] [--processor N] [--folder PATH]
+                      [--only WORD[,WORD..]] [--paths] [--processor N] [--folder PATH]
 
 For each number of edges (200,000 and 1,000,000 where none is given) the program at --make writes a text of each shape:
 `made`, `timetable`, `contacts` and `supply`, of the sizes in `SHAPES`. The built program, the one at --peer, which takes
@@ -12,7 +12,7 @@ window of `fastest` ends with its first departure, and has as many instants as `
 
 Prints a table: the least processor seconds and the least peak memory, in MB of 2^20 bytes, of the runs of each, and
 whether all told the same (the peer byte for byte, the scan each arrival). With --only these programs are run, on every
-shape, and every program on these shapes. Texts are kept in --folder where it is given, and used again. The exit code is 1
+shape, and every program on these shapes. With --paths they tell written journeys too, and no scan is run. Texts are kept in --folder where it is given, and used again. The exit code is 1
 where something was told otherwise.
 
 Without --program it is bin/graphite, which is brought up to date first; what is timed then is the file that it starts. A
@@ -129,7 +129,8 @@ def table(programs, args, folder):
             only = args.only.split(',') if args.only else JOURNEYS
             for program in (p for p in JOURNEYS if p in only or shape in only):
                 text = text_of(args.make, args.folder or folder, shape, edges)
-                least, same = row(programs, words_of(program, shape, text), text, args.runs, folder)
+                words = words_of(program, shape, text) + (['--report', 'paths'] if args.paths else [])
+                least, same = row(programs, words, text, args.runs, folder)
                 all_same = all_same and same
                 whos = [least.get(who) for who in ('program', 'peer', 'scan')]
                 cells = ['%.2f' % w[0] if w else '' for w in whos] + ['%.0f' % w[1] if w else '' for w in whos]
@@ -147,11 +148,12 @@ def main():
     ask.add_argument('--edges', default='200000,1000000')
     ask.add_argument('--runs', type=int, default=3)
     ask.add_argument('--only')
+    ask.add_argument('--paths', action='store_true')
     ask.add_argument('--processor', type=int, default=max(os.sched_getaffinity(0)))
     ask.add_argument('--folder')
     args = ask.parse_args()
     programs = {'program': built(args.program), 'peer': args.peer}
-    if args.scan:
+    if args.scan and not args.paths:
         programs['scan'] = args.scan
     # whatever is started from here on stays on this processor
     os.sched_setaffinity(0, {args.processor})

@@ -12,7 +12,7 @@ milliseconds.
 
 Both programs run on each text the six programs of snapshots, with keys that it has and has not, also with few supersteps;
 and as many lists of words as --lists says for a program of journeys, from the ends of its edges, with windows and instants
-near those of its edges. A line a shape says how many runs gave the same bytes and exit code, and how many of them ended
+near those of its edges, half of them with written journeys. A line a shape says how many runs gave the same bytes and exit code, and how many of them ended
 with which; the exit code is 0 where all were the same. The program is bin/graphite where no path is given.
 """
 import argparse
@@ -108,7 +108,13 @@ def journey_words(lines, draw):
     words += fastest_window(edge, draw) if program == 'fastest' else window(lines, edge, draw)
     if draw.random() < 0.3:
         words += ['--steps', str(draw.choice([1, 2, 3, 5, 8, 13, 30]))]
-    return words + draw.choice([[], [], ['--report', 'sums'], ['--at', str(instant(lines, draw))]])
+    return words + report_words(lines, draw)
+
+
+def report_words(lines, draw):
+    path = ['--path', draw.choice([line for line in lines if line[0] == 'v'])[1]]
+    at = ['--at', str(instant(lines, draw))]
+    return draw.choice([[], ['--report', 'sums'], at, ['--report', 'paths'], ['--report', 'paths'], path + at])
 
 
 def answer(program, words, text):

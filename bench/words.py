@@ -6,8 +6,7 @@
 N lists of words are drawn: a program's word or another one, and then options and values, right and wrong, in both
 forms and in any order. Both programs are given them with the same small text. Prints each list that is answered
 differently, and how many ended with each exit code; the exit code is 0 where all answers are the same. The program is
-bin/graphite where no path is given. The other one may know more (reports of journeys step by step): such words are not
-drawn.
+bin/graphite where no path is given.
 """
 import argparse
 import collections
@@ -45,31 +44,32 @@ VALUES = {
     'from': ['0', '2', '4', '9', '904', '5000', '17592186044416', '17592186044417', '01', '', '-1', 'a'],
     'until': ['10', '5', '4', '1', '0', '4096', '4097', '5000', '5001', '17592186044416', '17592186044417', '010', '', '+5'],
     'steps': ['4', '2', '3', '1', '30', '0', '01', '2097152', '2097153', '-1', '+1', '', '1 ', 'a', '99999999999999999999'],
-    'report': ['sums', 'intervals', 'sums', 'Intervals', 'paths', '', 'sum'],
+    'report': ['sums', 'intervals', 'paths', 'Intervals', 'path', '', 'sum'],
     'at': ['0', '3', '9', '4999', '5000', '17592186044416', '17592186044417', '03', '', '-3', '18446744073709551616'],
+    'path': ['b', 'c', 'a', '-x', 'z', '', '-', '--at'],
 }
-STRAYS = ['extra', '-', '--', '--help', '-h', '-V', '--stepsx', '--step', '--source', '--at', '-at', '--=3', '--from',
+STRAYS = ['extra', '-', '--', '--help', '-h', '-V', '--stepsx', '--step', '--source', '--at', '--path', '-at', '--=3', '--from',
           '--until=3', '=']
 
 
-def draw_value(draw, program, option):
+def draw_value(draw, option):
     good = draw.random() < 0.8
-    value = VALUES[option][0 if good and draw.random() < 0.5 else draw.randrange(3 if good else len(VALUES[option]))]
-    return 'path' if value == 'paths' and program in JOURNEYS else value
+    return VALUES[option][0 if good and draw.random() < 0.5 else draw.randrange(3 if good else len(VALUES[option]))]
 
 
 def draw_words(draw):
     program = draw.choice(PROGRAMS if draw.random() < 0.9 else OTHERS)
     words = [program] if draw.random() < 0.97 else []
     options = [o for o in WANTED.get(program, []) if draw.random() < 0.9]
-    fitting = [draw.choice(['report', 'at']), 'steps'] + (['from'] if program in JOURNEYS else [])
+    fitting = ['steps'] + (['from'] if program in JOURNEYS else [])
     fitting += ['until'] if program in JOURNEYS and 'until' not in options else []
     options += draw.sample(fitting, draw.randrange(len(fitting) + 1))
+    options += draw.choice([[], ['report'], ['at']] + ([['at', 'path']] if program in JOURNEYS else []))
     # now and then one that does not fit, or that is there already
     options += [draw.choice(list(VALUES)) for _ in range(draw.choice([0, 0, 0, 1]))]
     draw.shuffle(options)
     for option in options:
-        value = draw_value(draw, program, option)
+        value = draw_value(draw, option)
         words += ['--%s=%s' % (option, value)] if draw.random() < 0.4 else ['--' + option, value]
     if draw.random() < 0.12:
         words.insert(draw.randrange(len(words) + 1), draw.choice(STRAYS))
