@@ -21,6 +21,10 @@ const LAST_ARRIVALS: &[u8] =
 const TIMETABLE: &[u8] =
     b"graph 1 17592186044416\nv central 0 17592186044416\nv museum 0 17592186044416\nv harbour 0 17592186044416\ne t1 central museum 1700000000000 1700000000001\ne t2 museum harbour 1700000420000 1700000420001\ne t3 museum harbour 1700000240000 1700000240001\npe t1 time 1700000000000 1700000000001 300000\npe t2 time 1700000420000 1700000420001 600000\npe t3 time 1700000240000 1700000240001 240000\nend\n";
 
+/// Two edges that tie, an edge from the source to itself that costs nothing, a journey of three steps, and a vertex that dies.
+const TIES: &[u8] =
+    b"graph 1 12\nv a 0 12\nv b 0 12\nv c 0 12\nv d 0 8\ne x a b 0 6\ne y a b 0 6\ne aa a a 0 6\ne bc b c 0 9\ne cd c d 0 7\npe aa cost 0 6 0\nend\n";
+
 #[test]
 fn best_values(rt: HostRuntime) -> Result<(), Fail> {
     let cases: [(&[&str], &[u8], &[u8]); 9] = [
@@ -155,6 +159,52 @@ fn written_journeys(rt: HostRuntime) -> Result<(), Fail> {
     ];
     for (words, text, written) in cases {
         expect_run(&rt, rt.alloc(), words, text, Status::Done, written)?;
+    }
+    Ok(())
+}
+
+/// The least edge and then the least departure, for the latest the greatest; no step where staying is as good; and which of
+/// two reasons to refuse comes first.
+#[test]
+fn journeys_that_tie(rt: HostRuntime) -> Result<(), Fail> {
+    let cases: [(&[&str], Status, &[u8]); 6] = [
+        (
+            &["cheapest", "--source", "a", "--path", "d", "--at", "7"],
+            Status::Done,
+            b"graphite cheapest steps 5\nd 7 3\n> x 0 1 1\n> bc 1 2 1\n> cd 2 3 1\nend\n",
+        ),
+        (
+            &["latest", "--target", "d", "--path", "a", "--at", "1"],
+            Status::Done,
+            b"graphite latest steps 5\na 1 4\n> x 4 5 1\n> bc 5 6 1\n> cd 6 7 1\nend\n",
+        ),
+        (
+            &["cheapest", "--source", "a", "--path", "a", "--at", "5"],
+            Status::Done,
+            b"graphite cheapest steps 5\na 5 0\nend\n",
+        ),
+        (
+            &["reach", "--source", "a", "--path", "z", "--at", "12"],
+            Status::QueryRefused,
+            b"refused query 1\n",
+        ),
+        (
+            &[
+                "reach", "--source", "a", "--path", "d", "--at", "9", "--from", "3", "--until", "3",
+            ],
+            Status::QueryRefused,
+            b"refused query 3\n",
+        ),
+        (
+            &[
+                "reach", "--source", "a", "--path", "d", "--at", "9", "--steps", "1",
+            ],
+            Status::QueryRefused,
+            b"refused query 4\n",
+        ),
+    ];
+    for (words, status, written) in cases {
+        expect_run(&rt, rt.alloc(), words, TIES, status, written)?;
     }
     Ok(())
 }
