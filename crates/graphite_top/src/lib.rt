@@ -12,7 +12,7 @@ mod told;
 mod write;
 
 pub use call::run;
-pub use laws::an_answer_is_one;
+pub use laws::{a_told_journey_has_the_value, an_answer_is_one};
 pub use status::Status;
 
 #[cfg(test)]
