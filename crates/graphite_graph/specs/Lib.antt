@@ -5,7 +5,6 @@ pub mod Numbered
 pub mod Names
 pub mod Step
 pub mod Load
-pub mod Show
 pub mod Facts
 pub mod FactsLaws
 pub mod Departure

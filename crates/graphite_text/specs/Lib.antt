@@ -7,3 +7,4 @@ pub mod Record
 pub mod Step
 pub mod Canonical
 pub mod Spans
+pub mod Writing

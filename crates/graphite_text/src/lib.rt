@@ -11,6 +11,7 @@ mod line;
 mod record;
 mod rules;
 mod span;
+mod writing;
 
 pub use canonical::{
     canonical_text_is_no_longer, canonical_text_is_read, canonical_text_tells_graphs_apart,
@@ -25,6 +26,7 @@ pub use rules::{
     OWNER_RULE, SHAPE_RULE, TRAVEL_RULE,
 };
 pub use span::Span;
+pub use writing::push_record;
 
 #[cfg(test)]
 mod tests;

@@ -136,3 +136,43 @@ fn headers_are_told_apart(rt: HostRuntime) {
     assert!(rt; is_wrong_start(b"graph 2 10"));
     assert!(rt; is_wrong_start(b"v a 0 10"));
 }
+
+#[test]
+fn records_are_written_as_their_lines(rt: HostRuntime) -> Result<(), Fail> {
+    let over = Span { a: 0, b: 5 };
+    let records = [
+        Record::Graph {
+            version: 1,
+            horizon: 17_592_186_044_416,
+        },
+        Record::Vertex { name: b"a", over },
+        Record::Edge {
+            name: b"ab",
+            from: b"a",
+            to: b"b",
+            over,
+        },
+        Record::VertexProp {
+            owner: b"a",
+            key: b"load",
+            over,
+            value: 7,
+        },
+        Record::EdgeProp {
+            owner: b"ab",
+            key: b"time",
+            over,
+            value: 4_294_967_295,
+        },
+        Record::End,
+    ];
+    let mut text = Vec::new(rt.alloc());
+    for record in records {
+        push_record(&mut text, record)?;
+    }
+    assert_eq!(rt;
+        text.as_slice(),
+        b"graph 1 17592186044416\nv a 0 5\ne ab a b 0 5\npv a load 0 5 7\npe ab time 0 5 4294967295\nend\n".as_slice()
+    );
+    Ok(())
+}
