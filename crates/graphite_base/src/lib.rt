@@ -17,7 +17,7 @@ mod writing;
 
 pub use bytes::Bytes;
 pub use numbers::{number_of, push_number};
-pub use reading::{ReadText, TEXT_LIMIT, read_text};
+pub use reading::{MADE_LIMIT, ReadText, TEXT_LIMIT, read_text};
 pub use script_sink::ScriptSink;
 pub use script_source::ScriptSource;
 pub use sink::{Put, Sink};

@@ -11,6 +11,10 @@ use std::alloc::{AllocError, Global};
 /// The greatest limit of a text, in bytes: 256 MiB.
 pub const TEXT_LIMIT: usize = 268_435_456;
 
+/// The most vertices, and the most edges, that a made text may have. It is then no longer than
+/// [`TEXT_LIMIT`].
+pub const MADE_LIMIT: u32 = 1_000_000;
+
 /// Bytes that one read of a text asks for at most.
 const PIECE: usize = 65_536;
 
