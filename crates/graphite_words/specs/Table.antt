@@ -2,14 +2,15 @@
 use Rattle.std.specs.Prelude.{ℕ, Bool, ◌||◌, true, false, List, [], ◌∷◌, codes, find, Option, Some, None}
 use Rattle.std.specs.Str.{bytes_eq}
 use Rattle.graphite_words.specs.declared.table.Command.{Command}
-use Rattle.graphite_words.specs.declared.table.Command.TheVariants.{Degree, Bfs, Components, Max, Distance, Rank, Reach, Earliest, Cheapest, Fastest, Latest, Show}
+use Rattle.graphite_words.specs.declared.table.Command.TheVariants.{Degree, Bfs, Components, Max, Distance, Rank, Reach, Earliest, Cheapest, Fastest, Latest, Show, Made}
 
 -- A row of the table: the word that names the program; whether it starts from a vertex, whose name has to be given;
 -- whether it leads to a vertex, whose name has to be given; whether it reads a property, whose key has to be given;
 -- whether it may be given a window of instants, by the first one and the end; whether that end has to be given; whether it
 -- may be given the number of supersteps allowed; whether it may be told what to report, by a kind of report or an instant;
--- whether it may be told to report paths, of all vertices by the kind of report or of one by its name; and how many
--- supersteps are allowed where that is not given: none stands for one more than the vertices have lifespans.
+-- whether it may be told to report paths, of all vertices by the kind of report or of one by its name; whether it makes its
+-- graph from a number, of which the seed, the vertices, the edges, the horizon and the program to run on it have to be given;
+-- and how many supersteps are allowed where that is not given: none stands for one more than the vertices have lifespans.
 pub record PlainRow : Type 0 where
   pub word : List ℕ
   pub wants_source : Bool
@@ -20,6 +21,7 @@ pub record PlainRow : Type 0 where
   pub takes_steps : Bool
   pub takes_report : Bool
   pub takes_paths : Bool
+  pub makes : Bool
   pub usual_steps : Option ℕ
 
 -- the name of a vertex has to be given
@@ -38,6 +40,7 @@ row_named word = record {
   takes_steps = false;
   takes_report = false;
   takes_paths = false;
+  makes = false;
   usual_steps = None;
 }
 
@@ -63,9 +66,10 @@ row_of Cheapest = record (row_with_window (codes "cheapest")) { wants_source = t
 row_of Fastest = record (row_with_window (codes "fastest")) { wants_source = true; wants_until = true }
 row_of Latest = record (row_with_window (codes "latest")) { wants_target = true }
 row_of Show = row_named (codes "show")
+row_of Made = record (row_named (codes "made")) { makes = true }
 
 abbrev pub commands : List Command
-commands = Degree ∷ Bfs ∷ Components ∷ Max ∷ Distance ∷ Rank ∷ Reach ∷ Earliest ∷ Cheapest ∷ Fastest ∷ Latest ∷ Show ∷ []
+commands = Degree ∷ Bfs ∷ Components ∷ Max ∷ Distance ∷ Rank ∷ Reach ∷ Earliest ∷ Cheapest ∷ Fastest ∷ Latest ∷ Show ∷ Made ∷ []
 
 -- the program that a word names
 abbrev pub command_of : List ℕ → Option Command

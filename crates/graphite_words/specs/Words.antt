@@ -1,6 +1,6 @@
 -- What the words ask for. How a list of words is read is the published definition of `clap` for a simple command; what
 -- the program asks of a list that is read stands here.
-use Rattle.std.specs.Prelude.{ℕ, ⊤, Bool, true, false, not, ◌||◌, ◌&&◌, ◌==◌, is_none, is_some, List, [], ◌∷◌, codes, Option, Some, None, option_map, option_and_then, unwrap_or, if◌then◌else◌}
+use Rattle.std.specs.Prelude.{◌≡◌, ◌≤◌, ◌-◌, ◌^◌, ℕ, ⊤, Bool, true, false, not, ◌||◌, ◌&&◌, ◌==◌, is_none, is_some, List, [], ◌∷◌, codes, Option, Some, None, option_map, option_and_then, unwrap_or, if◌then◌else◌}
 use Rattle.std.specs.List.{list_any}
 use Rattle.std.specs.Option.{option_or}
 use Rattle.std.specs.Str.{bytes_eq}
@@ -8,6 +8,7 @@ use Rattle.clap.specs.Words.{App, Kinds, Rule, Text, fault_of, first_of, matches
 use Rattle.clap.specs.Words.{Row as Match}
 use Rattle.clap.specs.declared.builder.action.ArgAction.TheVariants.{Set}
 use Rattle.graphite_base.specs.Numbers.{number_in}
+use Rattle.graphite_base.specs.declared.reading.TheConstants.{MADE_LIMIT}
 use Rattle.graphite_api.specs.declared.TheConstants.{STEP_LIMIT}
 use Rattle.graphite_time.specs.declared.TheConstants.{LAST}
 use Rattle.graphite_words.specs.declared.table.Command.{Command}
@@ -24,7 +25,8 @@ option_rule name = record (new_rule name) { long = Some name; action = Some Set 
 -- the command that `clap` reads: the word of a program, and options
 unfoldable pub graphite_command : App
 graphite_command =
-    with_rule (with_rule (with_rule (with_rule (with_rule (with_rule (with_rule (with_rule (with_rule (with_rule (new_app (codes "graphite"))
+    with_rule (with_rule (with_rule (with_rule (with_rule
+    (with_rule (with_rule (with_rule (with_rule (with_rule (with_rule (with_rule (with_rule (with_rule (with_rule (new_app (codes "graphite"))
     (new_rule (codes "program")))
     (option_rule (codes "source")))
     (option_rule (codes "target")))
@@ -34,7 +36,12 @@ graphite_command =
     (option_rule (codes "steps")))
     (option_rule (codes "report")))
     (option_rule (codes "at")))
-    (option_rule (codes "path"))
+    (option_rule (codes "path")))
+    (option_rule (codes "seed")))
+    (option_rule (codes "vertices")))
+    (option_rule (codes "edges")))
+    (option_rule (codes "horizon")))
+    (option_rule (codes "of"))
 
 -- `-` or `--`
 abbrev pub is_dashes : Text → Bool
@@ -61,6 +68,11 @@ pub record PlainGiven : Type 0 where
   pub report : Option Text
   pub at : Option Text
   pub path : Option Text
+  pub seed : Option Text
+  pub vertices : Option Text
+  pub edges : Option Text
+  pub horizon : Option Text
+  pub of : Option Text
 
 -- what the words give
 abbrev pub given_in : List Match → PlainGiven
@@ -75,13 +87,37 @@ given_in found = record {
   report = first_of (codes "report") found;
   at = first_of (codes "at") found;
   path = first_of (codes "path") found;
+  seed = first_of (codes "seed") found;
+  vertices = first_of (codes "vertices") found;
+  edges = first_of (codes "edges") found;
+  horizon = first_of (codes "horizon") found;
+  of = first_of (codes "of") found;
 }
 
 -- ---- what is asked for
 
+-- What a graph is made from: a seed, how many vertices and edges it has, its horizon, and the program to run on it.
+pub record PlainMade : Type 0 where
+  pub seed : ℕ
+  pub vertices : ℕ
+  pub edges : ℕ
+  pub horizon : ℕ
+  pub of : Command
+
+-- The numbers are within their limits, there is a vertex wherever there is an edge, and the program has a report.
+pub record CanBeMade (made : PlainMade) : Type 0 where
+  pub seed : made.seed ≤ 2 ^ 64 - 1
+  pub vertices : made.vertices ≤ MADE_LIMIT
+  pub edges : made.edges ≤ MADE_LIMIT
+  pub some : 1 ≤ made.horizon
+  pub last : made.horizon ≤ LAST
+  pub has_ends : made.vertices ≡ 0 → made.edges ≡ 0
+  pub has_report : (row_of made.of).takes_report ≡ true
+
 -- A program, with the options that it takes: the name of the vertex to start from or to lead to, the key of the property
 -- to read, the window of instants from the first one to before its end, which is the horizon where none is given, the
--- number of supersteps allowed, what to report, and the name of the vertex whose path is told, where one path is.
+-- number of supersteps allowed, what to report, the name of the vertex whose path is told, where one path is, and what the
+-- graph is made from, where it is not read.
 pub record PlainQuery : Type 0 where
   pub command : Command
   pub vertex : Option Text
@@ -91,6 +127,7 @@ pub record PlainQuery : Type 0 where
   pub steps : Option ℕ
   pub report : Report
   pub told : Option Text
+  pub made : Option PlainMade
 
 -- an option is given exactly where it is wanted
 abbrev pub is_as_wanted : Bool → Option Text → Bool
@@ -104,10 +141,16 @@ is_there wanted value = if wanted then is_some value else true
 abbrev pub is_taken : Bool → Option Text → Bool
 is_taken taken value = is_none value || taken
 
--- a source, a target and a key are given exactly where they are wanted, and an end of the window wherever one is wanted
+-- what a graph is made from is given exactly where it is made
+abbrev pub has_numbers : PlainRow → PlainGiven → Bool
+has_numbers row given = is_as_wanted row.makes given.seed && is_as_wanted row.makes given.vertices && is_as_wanted row.makes given.edges
+    && is_as_wanted row.makes given.horizon && is_as_wanted row.makes given.of
+
+-- a source, a target, a key and what a graph is made from are given exactly where they are wanted, and an end of the window
+-- wherever one is wanted
 abbrev pub has_wanted : PlainRow → PlainGiven → Bool
 has_wanted row given = is_as_wanted row.wants_source given.source && is_as_wanted row.wants_target given.target
-    && is_as_wanted row.wants_key given.key && is_there row.wants_until given.until
+    && is_as_wanted row.wants_key given.key && is_there row.wants_until given.until && has_numbers row given
 
 -- whether paths are to be told: of one vertex, or by the kind of report
 abbrev pub names_paths : Option Text → Bool
@@ -159,6 +202,18 @@ report_of None (Some value) None = option_map At (instant_in value)
 report_of None (Some value) (Some name) = option_map PathAt (instant_in value)
 report_of kind instant path = None
 
+-- the program to run on a made graph that a value names: one that has a report
+abbrev pub of_in : Text → Option Command
+of_in value = option_and_then (λ command. if (row_of command).takes_report then Some command else None) (command_of value)
+
+-- the horizon that a value says: a canonical decimal from 1 to the last instant
+abbrev pub horizon_in : Text → Option ℕ
+horizon_in value = option_and_then (λ h. if h == 0 then None else Some h) (number_in LAST value)
+
+-- where there is no vertex there is no edge
+abbrev pub with_ends : PlainMade → Option PlainMade
+with_ends made = if (made.vertices == 0) && not (made.edges == 0) then None else Some made
+
 -- a report that tells paths
 abbrev pub TellsPaths : Report → Type 0
 TellsPaths Paths = ⊤
@@ -166,8 +221,22 @@ TellsPaths (PathAt t) = ⊤
 TellsPaths report = ⊥
 
 -- what is made of a value, where it has the form that it is to have
-abbrev pub read_then : {X : Type 0} → Option X → (X → Option PlainQuery) → Option PlainQuery
+abbrev pub read_then : {X Y : Type 0} → Option X → (X → Option Y) → Option Y
 read_then value make = option_and_then make value
+
+-- what a graph is made from, where that is given
+abbrev pub made_by : (seed vertices edges horizon of : Text) → Option PlainMade
+made_by seed vertices edges horizon of =
+    read_then (number_in (2 ^ 64 - 1) seed) (λ s.
+    read_then (number_in MADE_LIMIT vertices) (λ v.
+    read_then (number_in MADE_LIMIT edges) (λ e.
+    read_then (horizon_in horizon) (λ h.
+    read_then (of_in of) (λ command.
+    with_ends (record { seed = s; vertices = v; edges = e; horizon = h; of = command }))))))
+
+abbrev pub made_of : (seed vertices edges horizon of : Option Text) → Option (Option PlainMade)
+made_of (Some seed) (Some vertices) (Some edges) (Some horizon) (Some of) = option_map Some (made_by seed vertices edges horizon of)
+made_of seed vertices edges horizon of = Some None
 
 -- a program with what is given, where its row takes that
 abbrev pub query_with : Command → PlainGiven → Option PlainQuery
@@ -175,7 +244,8 @@ query_with command given = if takes (row_of command) given
     then read_then (instant_of given.from) (λ from.
     read_then (instant_of given.until) (λ until.
     read_then (steps_of given.steps) (λ steps.
-    read_then (report_of given.report given.at given.path) (λ report. Some (record {
+    read_then (report_of given.report given.at given.path) (λ report.
+    read_then (made_of given.seed given.vertices given.edges given.horizon given.of) (λ made. Some (record {
       command = command;
       vertex = option_or given.source given.target;
       key = given.key;
@@ -184,7 +254,8 @@ query_with command given = if takes (row_of command) given
       steps = steps;
       report = report;
       told = given.path;
-    })))))
+      made = made;
+    }))))))
     else None
 
 -- what is asked for by what is given

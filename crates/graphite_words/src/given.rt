@@ -1,11 +1,14 @@
 //! What the words give, as text.
-ghost use Rattle.std.specs.Prelude.{◌≡◌, option_map};
+ghost use Rattle.std.specs.Prelude.{◌≡◌, None, Some, option_map, IfOk, IsErrOf};
 ghost use Rattle.std.specs.Option.{option_or};
 ghost use Rattle.clap.specs.Words.{found_of, rows_of};
-ghost use Rattle.graphite_words.specs.Query.{plain_given, plain_row};
-ghost use Rattle.graphite_words.specs.Words.{given_in, has_only_taken, has_wanted, is_taken, names_paths, takes, tells_paths};
+ghost use Rattle.graphite_words.specs.Query.{plain_given, plain_made, plain_row};
+ghost use Rattle.graphite_words.specs.Words.{given_in, has_numbers, has_only_taken, has_wanted, is_taken, made_of, names_paths, takes, tells_paths};
 
+use crate::fault::WordsFault;
+use crate::made::MadeAsk;
 use crate::table::Row;
+use crate::values::made_by;
 use clap::ArgMatches;
 
 /// The word of a program and the value of each option, where the words give it.
@@ -21,6 +24,11 @@ pub struct Given<'w> {
     pub report: Option<&'w str>,
     pub at: Option<&'w str>,
     pub path: Option<&'w str>,
+    pub seed: Option<&'w str>,
+    pub vertices: Option<&'w str>,
+    pub edges: Option<&'w str>,
+    pub horizon: Option<&'w str>,
+    pub of: Option<&'w str>,
 }
 
 impl<'w> Given<'w> {
@@ -39,6 +47,11 @@ impl<'w> Given<'w> {
             report: matches.get_str("report"),
             at: matches.get_str("at"),
             path: matches.get_str("path"),
+            seed: matches.get_str("seed"),
+            vertices: matches.get_str("vertices"),
+            edges: matches.get_str("edges"),
+            horizon: matches.get_str("horizon"),
+            of: matches.get_str("of"),
         }
     }
 
@@ -49,6 +62,25 @@ impl<'w> Given<'w> {
         self.source.or(self.target)
     }
 
+    /// What a graph is made from, where that is given. Refused where a value says no such number or
+    /// program, or where there is an edge and no vertex.
+    pub fn made(self) -> Result<Option<MadeAsk>, WordsFault>
+        ensures asked { IfOk result (λ made. made_of (plain_given self.entry).seed (plain_given self.entry).vertices
+            (plain_given self.entry).edges (plain_given self.entry).horizon (plain_given self.entry).of
+            ≡ Some (option_map plain_made made)) }
+        ensures refused { IsErrOf result WordsFault.Refused → made_of (plain_given self.entry).seed
+            (plain_given self.entry).vertices (plain_given self.entry).edges (plain_given self.entry).horizon
+            (plain_given self.entry).of ≡ None }
+    {
+        match (self.seed, self.vertices, self.edges, self.horizon, self.of) {
+            (Some(seed), Some(vertices), Some(edges), Some(horizon), Some(of)) => {
+                let made = made_by(seed, vertices, edges, horizon, of).ok_or(WordsFault::Refused)?;
+                Ok(Some(made))
+            }
+            _ => Ok(None),
+        }
+    }
+
     /// Whether each option that a program of this row wants is given, and none that it does not take.
     pub fn fits(self, row: Row) -> bool
         ensures { result ≡ takes (plain_row row) (plain_given self.entry) }
@@ -56,8 +88,8 @@ impl<'w> Given<'w> {
         self.has_wanted(row) && self.has_only_taken(row)
     }
 
-    /// Whether a source, a target and a key are given exactly where they are wanted, and an end of the
-    /// window wherever one is wanted.
+    /// Whether a source, a target, a key and what a graph is made from are given exactly where they are
+    /// wanted, and an end of the window wherever one is wanted.
     fn has_wanted(self, row: Row) -> bool
         ensures { result ≡ has_wanted (plain_row row) (plain_given self.entry) }
     {
@@ -65,6 +97,18 @@ impl<'w> Given<'w> {
             && self.target.is_some() == row.wants_target
             && self.key.is_some() == row.wants_key
             && (self.until.is_some() || !row.wants_until)
+            && self.has_numbers(row)
+    }
+
+    /// Whether what a graph is made from is given exactly where it is made.
+    fn has_numbers(self, row: Row) -> bool
+        ensures { result ≡ has_numbers (plain_row row) (plain_given self.entry) }
+    {
+        self.seed.is_some() == row.makes
+            && self.vertices.is_some() == row.makes
+            && self.edges.is_some() == row.makes
+            && self.horizon.is_some() == row.makes
+            && self.of.is_some() == row.makes
     }
 
     /// Whether the other options are given only where they are taken, and paths are told only where they are.

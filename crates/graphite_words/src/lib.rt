@@ -3,6 +3,7 @@
 
 mod fault;
 mod given;
+mod made;
 mod parse;
 mod query;
 mod steps;
@@ -10,6 +11,7 @@ mod table;
 mod values;
 
 pub use fault::WordsFault;
+pub use made::MadeAsk;
 pub use query::{Query, Report, query_of};
 pub use steps::Steps;
 pub use table::{Command, Row, row_of};

@@ -60,7 +60,12 @@ fn graphite_command<'w>(alloc: Global) -> Result<clap::Command<'w>, AllocError>
         .arg(option(alloc, "steps"))?
         .arg(option(alloc, "report"))?
         .arg(option(alloc, "at"))?
-        .arg(option(alloc, "path"))
+        .arg(option(alloc, "path"))?
+        .arg(option(alloc, "seed"))?
+        .arg(option(alloc, "vertices"))?
+        .arg(option(alloc, "edges"))?
+        .arg(option(alloc, "horizon"))?
+        .arg(option(alloc, "of"))
 }
 
 /// An option that takes one value.

@@ -7,6 +7,7 @@ ghost use Rattle.graphite_words.specs.Words.{query_by, query_of, query_with, Tel
 
 use crate::fault::WordsFault;
 use crate::given::Given;
+use crate::made::MadeAsk;
 use crate::parse::{has_dashes, line_of, matches_in};
 use crate::steps::Steps;
 use crate::table::{Command, command_of, row_of};
@@ -28,6 +29,9 @@ pub enum Report {
     At(u64),
     /// The value of one vertex at an instant, and the journey of that value, hop by hop.
     PathAt(u64),
+    /// How large the text of a made graph, of so many bytes, the graph and the report of its intervals are.
+    /// It is what [`Command::Made`] tells; no words ask for it otherwise.
+    Summary(u64),
 }
 
 /// What the words ask for: a program with the options that it takes.
@@ -47,6 +51,8 @@ pub struct Query {
     pub report: Report,
     /// The name of the vertex whose path is told: there where the report is [`Report::PathAt`], and else not.
     pub told: Option<Bytes>,
+    /// What the graph is made from: there where the command is [`Command::Made`], and else not.
+    pub made: Option<MadeAsk>,
 }
 
 /// What the words ask for, which are those after the program's own name. They are refused exactly where
@@ -69,6 +75,10 @@ pub fn query_of(alloc: Global, words: &[String]) -> Result<Query, WordsFault>
     ensures told { IfOk result (λ query. (t : ℕ) → query.report ≡ Report.PathAt t → IsSome query.told) }
     ensures told_instant { (t : ℕ) → IfOk result (λ query. query.report ≡ Report.PathAt t → t ≤ LAST) }
     ensures paths { IfOk result (λ query. TellsPaths query.report → IsTrue (row_of query.command).takes_paths) }
+
+    // What a graph is made from is there for `made`, and for no other program.
+    ensures made { IfOk result (λ query. query.command ≡ Command.Made → IsSome query.made) }
+    ensures made_alone { IfOk result (λ query. IsSome query.made → query.command ≡ Command.Made) }
 {
     if has_dashes(words) {
         return Err(WordsFault::Refused);
@@ -100,6 +110,7 @@ fn query_with(alloc: Global, command: Command, given: Given<'_>) -> Result<Query
     let until = instant_of(given.until)?;
     let steps = steps_of(given.steps)?;
     let report = report_of(given.report, given.at, given.path).ok_or(WordsFault::Refused)?;
+    let made = given.made()?;
     Ok(Query {
         command,
         vertex: bytes_of(alloc, given.vertex())?,
@@ -109,6 +120,7 @@ fn query_with(alloc: Global, command: Command, given: Given<'_>) -> Result<Query
         steps,
         report,
         told: bytes_of(alloc, given.path)?,
+        made,
     })
 }
 

@@ -33,6 +33,8 @@ pub enum Command {
     Latest,
     /// The canonical text of the graph.
     Show,
+    /// A graph made from a number, and the size of the report of a program that is run on it.
+    Made,
 }
 
 /// A row of the table of programs.
@@ -56,6 +58,9 @@ pub struct Row {
     pub takes_report: bool,
     /// Whether it may be told to report paths: of all vertices by the kind of report, or of one by its name.
     pub takes_paths: bool,
+    /// Whether it makes its graph from a number: the seed, the vertices, the edges, the horizon and the
+    /// program to run on it have to be given. No other program may be given one of them.
+    pub makes: bool,
     /// How many supersteps are allowed where the words do not say it. `None` stands for one more than the
     /// vertices have lifespans.
     pub usual_steps: Option<Steps>,
@@ -109,6 +114,10 @@ pub fn row_of(command: Command) -> Row
             ..row_with_window(b"latest")
         },
         Command::Show => row_named(b"show"),
+        Command::Made => Row {
+            makes: true,
+            ..row_named(b"made")
+        },
     }
 }
 
@@ -126,6 +135,7 @@ fn row_named(word: &'static [u8]) -> Row
         takes_steps: false,
         takes_report: false,
         takes_paths: false,
+        makes: false,
         usual_steps: None,
     }
 }
@@ -192,6 +202,9 @@ pub fn command_of(word: &[u8]) -> Option<Command>
     }
     if row_of(Command::Show).word == word {
         return Some(Command::Show);
+    }
+    if row_of(Command::Made).word == word {
+        return Some(Command::Made);
     }
     None
 }

@@ -25,6 +25,7 @@ fn query(command: Command) -> Query {
         steps: None,
         report: Report::Intervals,
         told: None,
+        made: None,
     }
 }
 
@@ -251,6 +252,116 @@ fn words_that_are_refused(rt: HostRuntime) -> Result<(), Fail> {
         // what to report
         &["degree", "--report", "paths"],
         &["degree", "--report", "sums", "--at", "1"],
+    ];
+    for words in cases {
+        expect_query(&rt, rt.alloc(), words, Err(WordsFault::Refused))?;
+    }
+    Ok(())
+}
+
+/// The words that ask for a graph made from these values, and for a program to run on it.
+fn made_words<'w>(values: [&'w str; 5]) -> [&'w str; 11] {
+    [
+        "made",
+        "--seed",
+        values[0],
+        "--vertices",
+        values[1],
+        "--edges",
+        values[2],
+        "--horizon",
+        values[3],
+        "--of",
+        values[4],
+    ]
+}
+
+#[test]
+fn words_of_made_graphs_that_are_accepted(rt: HostRuntime) -> Result<(), Fail> {
+    let least = MadeAsk {
+        seed: 0,
+        vertices: 0,
+        edges: 0,
+        horizon: 1,
+        of: Command::Degree,
+    };
+    let greatest = MadeAsk {
+        seed: 18_446_744_073_709_551_615,
+        vertices: 1_000_000,
+        edges: 1_000_000,
+        horizon: 17_592_186_044_416,
+        of: Command::Latest,
+    };
+    let cases: [([&str; 5], MadeAsk); 2] = [
+        (["0", "0", "0", "1", "degree"], least),
+        (
+            [
+                "18446744073709551615",
+                "1000000",
+                "1000000",
+                "17592186044416",
+                "latest",
+            ],
+            greatest,
+        ),
+    ];
+    for (values, made) in cases {
+        let query = Query {
+            made: Some(made),
+            ..query(Command::Made)
+        };
+        expect_query(&rt, rt.alloc(), &made_words(values), Ok(query))?;
+    }
+    Ok(())
+}
+
+#[test]
+fn values_of_made_graphs_that_are_refused(rt: HostRuntime) -> Result<(), Fail> {
+    let cases: [[&str; 5]; 10] = [
+        // no such number
+        ["18446744073709551616", "1", "1", "1", "degree"],
+        ["01", "1", "1", "1", "degree"],
+        ["0", "1000001", "1", "1", "degree"],
+        ["0", "1", "1000001", "1", "degree"],
+        ["0", "1", "1", "0", "degree"],
+        ["0", "1", "1", "17592186044417", "degree"],
+        // no program with a report
+        ["0", "1", "1", "1", "show"],
+        ["0", "1", "1", "1", "made"],
+        ["0", "1", "1", "1", "frob"],
+        // an edge without a vertex
+        ["0", "0", "1", "1", "degree"],
+    ];
+    for values in cases {
+        let words = made_words(values);
+        expect_query(&rt, rt.alloc(), &words, Err(WordsFault::Refused))?;
+    }
+    Ok(())
+}
+
+#[test]
+fn options_of_made_graphs_that_are_refused(rt: HostRuntime) -> Result<(), Fail> {
+    let cases: [&[&str]; 4] = [
+        // an option that is missing
+        &[
+            "made",
+            "--seed=0",
+            "--vertices=1",
+            "--edges=1",
+            "--horizon=1",
+        ],
+        // one that is not taken
+        &[
+            "made",
+            "--seed=0",
+            "--vertices=1",
+            "--edges=1",
+            "--horizon=1",
+            "--of=rank",
+            "--steps=3",
+        ],
+        &["degree", "--seed", "0"],
+        &["show", "--of", "degree"],
     ];
     for words in cases {
         expect_query(&rt, rt.alloc(), words, Err(WordsFault::Refused))?;

@@ -1,13 +1,15 @@
 //! What the values of options say.
 ghost use Rattle.std.specs.Prelude.{◌≡◌, None, Some, option_map, IfOk, IsErrOf};
-ghost use Rattle.graphite_words.specs.Query.{number_given};
-ghost use Rattle.graphite_words.specs.Words.{instant_in, instant_of, kind_in, report_of, steps_in, steps_of};
+ghost use Rattle.graphite_words.specs.Query.{number_given, plain_made};
+ghost use Rattle.graphite_words.specs.Words.{horizon_in, instant_in, instant_of, kind_in, made_by, of_in, report_of, steps_in, steps_of};
 
 use crate::fault::WordsFault;
+use crate::made::MadeAsk;
 use crate::query::Report;
 use crate::steps::Steps;
+use crate::table::{Command, command_of, row_of};
 use graphite_api::STEP_LIMIT;
-use graphite_base::number_of;
+use graphite_base::{MADE_LIMIT, number_of};
 use graphite_time::LAST;
 
 /// An instant, where it is given. Refused where its value is no instant.
@@ -75,4 +77,47 @@ fn kind_in(value: &str) -> Option<Report>
         "sums" => Some(Report::Sums),
         _ => None,
     }
+}
+
+/// What a graph is made from, by the values that say it.
+pub fn made_by(seed: &str, vertices: &str, edges: &str, horizon: &str, of: &str) -> Option<MadeAsk>
+    ensures { option_map plain_made result ≡ made_by seed.now vertices.now edges.now horizon.now of.now }
+{
+    let seed = number_of(seed.as_bytes(), u64::MAX)?;
+    let vertices = number_of(vertices.as_bytes(), u64::from(MADE_LIMIT))?;
+    let edges = number_of(edges.as_bytes(), u64::from(MADE_LIMIT))?;
+    let horizon = horizon_in(horizon)?;
+    let of = of_in(of)?;
+    if vertices == 0 && edges != 0 {
+        return None;
+    }
+    Some(MadeAsk {
+        seed,
+        vertices: vertices as u32,
+        edges: edges as u32,
+        horizon,
+        of,
+    })
+}
+
+/// The horizon that a value says.
+fn horizon_in(value: &str) -> Option<u64>
+    ensures { result ≡ horizon_in value.now }
+{
+    let horizon = instant_in(value)?;
+    if horizon == 0 {
+        return None;
+    }
+    Some(horizon)
+}
+
+/// The program to run on a made graph that a value names.
+fn of_in(value: &str) -> Option<Command>
+    ensures { result ≡ of_in value.now }
+{
+    let command = command_of(value.as_bytes())?;
+    if !row_of(command).takes_report {
+        return None;
+    }
+    Some(command)
 }

@@ -17,4 +17,9 @@ returns c =
     let steps = app_added _ _ _ _ (option_rule (codes "steps")) c.in_ok-arg-7.ensures c.option-6.ensures.local until c.option-6.ensures.rule in
     let report = app_added _ _ _ _ (option_rule (codes "report")) c.in_ok-arg-8.ensures c.option-7.ensures.local steps c.option-7.ensures.rule in
     let at = app_added _ _ _ _ (option_rule (codes "at")) c.in_ok-arg-9.ensures c.option-8.ensures.local report c.option-8.ensures.rule in
-    IfOk-weaker c.arg-10.result _ _ (λ command added. app_added _ _ _ _ (option_rule (codes "path")) added c.option-9.ensures.local at c.option-9.ensures.rule) c.arg-10.ensures
+    let path = app_added _ _ _ _ (option_rule (codes "path")) c.in_ok-arg-10.ensures c.option-9.ensures.local at c.option-9.ensures.rule in
+    let seed = app_added _ _ _ _ (option_rule (codes "seed")) c.in_ok-arg-11.ensures c.option-10.ensures.local path c.option-10.ensures.rule in
+    let vertices = app_added _ _ _ _ (option_rule (codes "vertices")) c.in_ok-arg-12.ensures c.option-11.ensures.local seed c.option-11.ensures.rule in
+    let edges = app_added _ _ _ _ (option_rule (codes "edges")) c.in_ok-arg-13.ensures c.option-12.ensures.local vertices c.option-12.ensures.rule in
+    let horizon = app_added _ _ _ _ (option_rule (codes "horizon")) c.in_ok-arg-14.ensures c.option-13.ensures.local edges c.option-13.ensures.rule in
+    IfOk-weaker c.arg-15.result _ _ (λ command added. app_added _ _ _ _ (option_rule (codes "of")) added c.option-14.ensures.local horizon c.option-14.ensures.rule) c.arg-15.ensures

@@ -1,9 +1,9 @@
-use Rattle.std.proofs.Common.{◌≡◌, ◌∙◌, ◌∷◌, Some, ap, codes, false, map, string_bytes}
+use Rattle.std.proofs.Common.{◌≡◌, ◌∙◌, ◌∷◌, Some, ap, codes, false, map, string_bytes, sym}
 use Rattle.std.proofs.lemmas.Result.{IfOk-weaker}
 use Rattle.std.specs.List.{list_any}
-use Rattle.graphite_words.specs.Query.{plain_query, plain_given}
+use Rattle.graphite_words.specs.Query.{plain_query, plain_given, plain_made}
 use Rattle.graphite_words.specs.Words.{is_dashes}
-use Rattle.graphite_words.proofs.QueryLemmas.{query_of-found, whole_by}
+use Rattle.graphite_words.proofs.QueryLemmas.{is_some-map, query_of-found, whole_by}
 use Rattle.graphite_words.proofs.query.query_of.Goals as goal
 
 pub returns-clause-asked : goal.returns-clause-asked
@@ -40,3 +40,9 @@ returns-clause-told_instant c = λ t. IfOk-weaker c.query_by.result _ _ (λ quer
 
 pub returns-clause-paths : goal.returns-clause-paths
 returns-clause-paths c = IfOk-weaker c.query_by.result _ _ (λ query asked. (whole_by (plain_given c.of_matches.result) (plain_query query) asked).paths) c.query_by.ensures.asked
+
+pub returns-clause-made : goal.returns-clause-made
+returns-clause-made c = IfOk-weaker c.query_by.result _ _ (λ query asked. λ named. sym (is_some-map plain_made query.made) ∙ (whole_by (plain_given c.of_matches.result) (plain_query query) asked).made named) c.query_by.ensures.asked
+
+pub returns-clause-made_alone : goal.returns-clause-made_alone
+returns-clause-made_alone c = IfOk-weaker c.query_by.result _ _ (λ query asked. λ there. (whole_by (plain_given c.of_matches.result) (plain_query query) asked).made_alone (is_some-map plain_made query.made ∙ there)) c.query_by.ensures.asked
