@@ -1,5 +1,6 @@
 pub mod LineLemmas
 pub mod SumLemmas
+pub mod SummaryLemmas
 pub mod ThroughLemmas
 pub mod StepLemmas
 pub mod PathLemmas

@@ -8,7 +8,7 @@ use Rattle.graphite_text.specs.Graph.{PlainGraph}
 use Rattle.graphite_text.specs.Reading.{Accepted, reading_of}
 use Rattle.graphite_report.specs.Given.{durations_in}
 use Rattle.graphite_witness.specs.declared.step.Step.{Step}
-use Rattle.graphite_report.specs.Report.{Heading, Values, vertex_lines, sums_line, intervals_report, instant_report, sums_report, path_lines, paths_report, one_path_report}
+use Rattle.graphite_report.specs.Report.{Heading, Values, vertex_lines, sums_line, intervals_report, instant_report, sums_report, path_lines, paths_report, one_path_report, summary}
 
 -- the graph of the text
 abbrev pub two : PlainGraph
@@ -153,3 +153,28 @@ no_path = refl
 path_of_none_alive : one_path_report earliest way arrivals way_steps 2 3 ≡ codes "graphite earliest steps 3\nend\n"
 unfolding one_path_report digits earliest
 path_of_none_alive = refl
+
+-- ---- the summary of a made graph
+
+-- three lines, of which that of the instants without a number does not count as valued
+summary_of_two : summary counted two 32 values ≡ codes "graphite made test steps 2 calls 5\ntext 32\ngraph 2 0 0\nreport 3 2\nend\n"
+unfolding summary runs_of digits counted
+summary_of_two = refl
+
+-- two vertices with one property, and an edge between them with two
+abbrev owned : PlainGraph
+owned = record two {
+  edges = record { name = codes "x"; from = 0; to = 1; life = record { a = 2; b = 4 } ∷ [] } ∷ [];
+  vertex_properties = record { owner = 1; key = codes "load"; over = record { a = 2; b = 3 }; value = 4 } ∷ [];
+  edge_properties = record { owner = 0; key = codes "cost"; over = record { a = 2; b = 3 }; value = 5 } ∷ record { owner = 0; key = codes "cost"; over = record { a = 3; b = 4 }; value = 6 } ∷ [];
+}
+
+-- its properties are counted together
+summary_of_owned : summary uncounted owned 92 values ≡ codes "graphite made test steps 2\ntext 92\ngraph 2 1 3\nreport 3 2\nend\n"
+unfolding summary runs_of digits uncounted
+summary_of_owned = refl
+
+-- a graph without a vertex has no line
+summary_of_none : summary uncounted (record two { vertices = [] }) 15 values ≡ codes "graphite made test steps 2\ntext 15\ngraph 0 0 0\nreport 0 0\nend\n"
+unfolding summary runs_of digits uncounted
+summary_of_none = refl

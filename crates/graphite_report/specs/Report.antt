@@ -2,11 +2,12 @@
 -- said of a vertex is a function of its printed values, and these are a function of the instant. A printed
 -- value is a number or none; a vertex has one at exactly the instants at which it is alive. Of its duration
 -- something is said or nothing: how long a journey takes, or none.
-use Rattle.std.specs.Prelude.{ℕ, ◌+◌, Bool, true, false, ◌==◌, List, [], ◌∷◌, ◌++◌, flat_map, codes, decimal, Option, Some, None, is_some, unwrap_or, option_and_then, count_by, sum_by}
+use Rattle.std.specs.Prelude.{ℕ, ◌+◌, length, Bool, true, false, ◌==◌, List, [], ◌∷◌, ◌++◌, flat_map, codes, decimal, Option, Some, None, is_some, unwrap_or, option_and_then, count_by, sum_by}
 use Rattle.std.specs.List.{range_with_len}
 use Rattle.graphite_api.specs.declared.duration.Duration.{Duration}
 use Rattle.graphite_part.specs.Runs.{Run, runs_of}
 use Rattle.graphite_text.specs.Graph.{PlainVertex, PlainGraph}
+use Rattle.graphite_text.specs.Reading.{property_count}
 use Rattle.graphite_graph.specs.Ends.{vertex_name, edge_name}
 use Rattle.graphite_witness.specs.declared.step.Step.{Step}
 
@@ -34,9 +35,13 @@ abbrev pub calls_text : Option ℕ → List ℕ
 calls_text None = []
 calls_text (Some calls) = codes " calls " ++ decimal calls
 
+-- the first line after its first word
+abbrev pub heading_text : Heading → List ℕ
+heading_text heading =
+    heading.program ++ codes " steps " ++ decimal heading.steps ++ calls_text heading.calls ++ codes "\n"
+
 abbrev pub first_line : Heading → List ℕ
-first_line heading =
-    codes "graphite " ++ heading.program ++ codes " steps " ++ decimal heading.steps ++ calls_text heading.calls ++ codes "\n"
+first_line heading = codes "graphite " ++ heading_text heading
 
 -- the lines of the vertices from a number on, where these are the lines of a vertex with this number and this name
 abbrev pub lines_of_vertices : (ℕ → List ℕ → List ℕ) → (first : ℕ) → List PlainVertex → List ℕ
@@ -163,3 +168,43 @@ sums_line name values horizon =
 -- the report of the sums of a graph whose vertices have these values
 unfoldable pub sums_report : Heading → PlainGraph → (ℕ → Values) → List ℕ
 sums_report heading graph values = report_with (λ v name. sums_line name (values v) graph.horizon) heading graph
+
+-- ---- the summary of a made graph
+
+-- how many lines the intervals report has for a vertex with these values, and how many of them have a number
+abbrev pub line_count : Values → (horizon : ℕ) → ℕ
+line_count values horizon = length (runs_of same_value values horizon)
+
+abbrev pub valued_line_count : Values → (horizon : ℕ) → ℕ
+valued_line_count values horizon = count_by (λ run. is_some run.value) (runs_of same_value values horizon)
+
+-- the sum over the vertices of a graph
+abbrev pub over_vertices : PlainGraph → (ℕ → ℕ) → ℕ
+over_vertices graph count = sum_by count (range_with_len 0 (length graph.vertices))
+
+-- the heading of a program whose graph was made
+abbrev pub made_heading : Heading → Heading
+made_heading heading = record heading { program = codes "made " ++ heading.program }
+
+-- text BYTES
+abbrev pub bytes_line : (bytes : ℕ) → List ℕ
+bytes_line bytes = codes "text " ++ decimal bytes ++ codes "\n"
+
+-- graph VERTICES EDGES PROPERTIES
+abbrev pub graph_line : (vertices edges properties : ℕ) → List ℕ
+graph_line vertices edges properties =
+    codes "graph " ++ decimal vertices ++ codes " " ++ decimal edges ++ codes " " ++ decimal properties ++ codes "\n"
+
+-- report LINES VALUED
+abbrev pub lines_line : (lines valued : ℕ) → List ℕ
+lines_line lines valued = codes "report " ++ decimal lines ++ codes " " ++ decimal valued ++ codes "\n"
+
+-- The summary of a graph with a text of so many bytes, whose vertices have these values: how large the text, the graph and
+-- the intervals report are.
+unfoldable pub summary : Heading → PlainGraph → (bytes : ℕ) → (ℕ → Values) → List ℕ
+summary heading graph bytes values =
+    first_line (made_heading heading)
+    ++ bytes_line bytes
+    ++ graph_line (length graph.vertices) (length graph.edges) (property_count graph)
+    ++ lines_line (over_vertices graph (λ v. line_count (values v) graph.horizon)) (over_vertices graph (λ v. valued_line_count (values v) graph.horizon))
+    ++ codes "end\n"

@@ -9,10 +9,12 @@ mod form;
 mod head;
 mod lines;
 mod paths;
+mod summary;
 mod sums;
 mod writer;
 
 pub use fault::ReportFault;
 pub use head::Head;
 pub use paths::{write_one_path, write_paths};
+pub use summary::write_summary;
 pub use writer::{write_instant, write_intervals, write_sums};

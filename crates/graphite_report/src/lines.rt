@@ -1,8 +1,9 @@
 //! The lines of a report, appended to a buffer.
 ghost use Rattle.std.specs.Prelude.{◌≡◌, ◌<◌, ◌++◌, All, length, map, flat_map, OnOk};
 ghost use Rattle.graphite_part.specs.Pieces.{run_of, value_at};
+ghost use Rattle.graphite_text.specs.Reading.{property_count};
 ghost use Rattle.graphite_report.specs.Given.{heading_of};
-ghost use Rattle.graphite_report.specs.Report.{calls_text, duration_line, duration_text, first_line, instant_lines, name_of_edge, run_line, step_line, totals_line, value_line, value_text};
+ghost use Rattle.graphite_report.specs.Report.{bytes_line, calls_text, duration_line, duration_text, first_line, graph_line, heading_text, instant_lines, lines_line, made_heading, name_of_edge, run_line, step_line, totals_line, value_line, value_text};
 
 use crate::Head;
 use crate::sums::Totals;
@@ -24,15 +25,69 @@ fn push_calls(into: &mut Vec<u8>, calls: Option<u128>) -> Result<(), NoMemory>
     Ok(())
 }
 
+/// Appends the first line after its first word.
+fn push_heading(into: &mut Vec<u8>, head: &Head<'_>) -> Result<(), NoMemory>
+    ensures { OnOk result (into.new.items ≡ into.old.items ++ heading_text (heading_of head.now)) }
+{
+    into.extend_from_slice(head.program)?;
+    into.extend_from_slice(b" steps ")?;
+    push_number(into, u128::from(head.steps))?;
+    push_calls(into, head.calls)?;
+    into.extend_from_slice(b"\n")?;
+    Ok(())
+}
+
 /// Appends the first line.
 pub fn push_first_line(into: &mut Vec<u8>, head: &Head<'_>) -> Result<(), NoMemory>
     ensures { OnOk result (into.new.items ≡ into.old.items ++ first_line (heading_of head.now)) }
 {
     into.extend_from_slice(b"graphite ")?;
-    into.extend_from_slice(head.program)?;
-    into.extend_from_slice(b" steps ")?;
-    push_number(into, u128::from(head.steps))?;
-    push_calls(into, head.calls)?;
+    push_heading(into, head)
+}
+
+/// Appends the first line with the word `made` before the program's.
+pub fn push_made_line(into: &mut Vec<u8>, head: &Head<'_>) -> Result<(), NoMemory>
+    ensures { OnOk result (into.new.items
+        ≡ into.old.items ++ first_line (made_heading (heading_of head.now))) }
+{
+    into.extend_from_slice(b"graphite made ")?;
+    push_heading(into, head)
+}
+
+/// Appends the line with how many bytes a text has.
+pub fn push_bytes_line(into: &mut Vec<u8>, bytes: u64) -> Result<(), NoMemory>
+    ensures { OnOk result (into.new.items ≡ into.old.items ++ bytes_line bytes) }
+{
+    into.extend_from_slice(b"text ")?;
+    push_number(into, u128::from(bytes))?;
+    into.extend_from_slice(b"\n")?;
+    Ok(())
+}
+
+/// Appends the line with how many vertices, edges and properties a graph has.
+pub fn push_graph_line(into: &mut Vec<u8>, graph: &Graph<'_>) -> Result<(), NoMemory>
+    ensures { OnOk result (into.new.items ≡ into.old.items
+        ++ graph_line (length graph.now.vertices) (length graph.now.edges) (property_count graph.now)) }
+{
+    let properties = graph.vertex_props().rows().len() + graph.edge_props().rows().len();
+    into.extend_from_slice(b"graph ")?;
+    push_number(into, u128::from(graph.vertices()))?;
+    into.extend_from_slice(b" ")?;
+    push_number(into, u128::from(graph.edges()))?;
+    into.extend_from_slice(b" ")?;
+    push_number(into, properties as u128)?;
+    into.extend_from_slice(b"\n")?;
+    Ok(())
+}
+
+/// Appends the line with how many lines for values a report has, and how many of these have a number.
+pub fn push_lines_line(into: &mut Vec<u8>, lines: u128, valued: u128) -> Result<(), NoMemory>
+    ensures { OnOk result (into.new.items ≡ into.old.items ++ lines_line lines valued) }
+{
+    into.extend_from_slice(b"report ")?;
+    push_number(into, lines)?;
+    into.extend_from_slice(b" ")?;
+    push_number(into, valued)?;
     into.extend_from_slice(b"\n")?;
     Ok(())
 }
