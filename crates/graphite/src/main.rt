@@ -2,11 +2,12 @@
 //! name, and writes its report to standard output.
 #![tactic(auto)]
 
-ghost use Rattle.std.specs.Prelude.{◌≡◌, ◌≢◌, None, drop, IfOk, IfErr};
+ghost use Rattle.std.specs.Prelude.{◌≡◌, ◌≢◌, drop, IfOk, IfErr};
 ghost use Rattle.std.specs.IoError.{error_kind};
 ghost use Rattle.std.specs.Process.{exit_status};
 ghost use Rattle.std.specs.Vec.Iter.{into_iter_items};
 ghost use Rattle.graphite_top.specs.declared.status.Status.{Status};
+ghost use Rattle.graphite_top.specs.Output.{ReadsSource};
 ghost use Rattle.graphite_top.specs.Status.{code_of};
 ghost use Rattle.graphite_words.specs.Words.{query_of};
 ghost use Rattle.graphite.specs.Served.{IsAnswered, words_of};
@@ -46,7 +47,7 @@ fn answer<S: Source, K: Sink>(alloc: Global, given: Args, source: &mut S, sink: 
     ensures answered { IsAnswered (words_of (into_iter_items given)) result
         (S.left source.old) (S.left source.new) (K.written sink.old) (K.written sink.new)
         (S.faults source.old) (S.faults source.new) (K.faults sink.old) (K.faults sink.new) }
-    ensures untouched { query_of (words_of (into_iter_items given)) ≡ None → source.new ≡ source.old }
+    ensures untouched { ¬ ReadsSource (query_of (words_of (into_iter_items given))) → source.new ≡ source.old }
 {
     match words_after_name(alloc, given) {
         Ok(words) => run(alloc, &words, source, sink),
@@ -66,7 +67,7 @@ fn serve<S: Source, K: Sink>(
     ensures served { IfOk given (λ args. (status : Status) × (exit_status result ≡ code_of status)
         × IsAnswered (words_of (into_iter_items args)) status (S.left source.old) (S.left source.new) (K.written sink.old) (K.written sink.new)
         (S.faults source.old) (S.faults source.new) (K.faults sink.old) (K.faults sink.new)) }
-    ensures untouched { IfOk given (λ args. query_of (words_of (into_iter_items args)) ≡ None
+    ensures untouched { IfOk given (λ args. ¬ ReadsSource (query_of (words_of (into_iter_items args)))
         → source.new ≡ source.old) }
 
     // Where the system does not give the words.

@@ -7,9 +7,9 @@ use Rattle.graphite_api.specs.declared.kind.Kind.TheVariants as kind
 use Rattle.graphite_graph.specs.Ends.{lifespan_count}
 use Rattle.graphite_snap.specs.declared.query.SnapQuery.{SnapQuery}
 use Rattle.graphite_words.specs.declared.table.Command.{Command}
-use Rattle.graphite_words.specs.declared.table.Command.TheVariants.{Degree, Bfs, Components, Max, Distance, Rank, Reach, Earliest, Cheapest, Fastest, Latest, Show}
+use Rattle.graphite_words.specs.declared.table.Command.TheVariants.{Degree, Bfs, Components, Max, Distance, Rank, Reach, Earliest, Cheapest, Fastest, Latest, Show, Made}
 use Rattle.graphite_words.specs.declared.query.Report.{Report}
-use Rattle.graphite_words.specs.declared.query.Report.TheVariants.{Intervals, Paths, Sums, At, PathAt}
+use Rattle.graphite_words.specs.declared.query.Report.TheVariants.{Intervals, Paths, Sums, At, PathAt, Summary}
 use Rattle.graphite_words.specs.Table.{row_of}
 use Rattle.graphite_words.specs.Words.{PlainQuery}
 use Rattle.graphite_top.specs.declared.told.Whose.{Whose}
@@ -25,6 +25,7 @@ late graph Paths journeys h program refused = absurd refused
 late graph Sums journeys h program refused = absurd refused
 late graph (At t) journeys h program refused = tt
 late graph (PathAt t) journeys h program refused = tt
+late graph (Summary bytes) journeys h program refused = absurd refused
 
 late_text : (graph : PlainGraph) (report : Report) (journeys : Option Whose) (h : ℕ) → IsRefused (in_life graph journeys (in_time report h (in_graph report journeys Text))) → GivesInstant report
 late_text graph Intervals journeys h refused = absurd refused
@@ -32,6 +33,7 @@ late_text graph Paths journeys h refused = absurd refused
 late_text graph Sums journeys h refused = absurd refused
 late_text graph (At t) journeys h refused = absurd refused
 late_text graph (PathAt t) journeys h refused = tt
+late_text graph (Summary bytes) journeys h refused = absurd refused
 
 -- a program of snapshots asks about no journeys, and neither does one that is refused, nor the text
 module _ (graph : PlainGraph) (report : Report) (journeys : Option Whose) (h : ℕ) where
@@ -125,18 +127,19 @@ refused_only query graph = by query.command (source_of query graph)
     by : (command : Command) (source : Option ℕ)
         → IsRefused (in_life graph (journeys_of query graph) (in_time query.report graph.horizon (in_graph query.report (journeys_of query graph) (asked_by command source (key_of query) query.from (until_of query graph)))))
         → CanBeRefused (Some (record query { command = command }))
-    by Degree source refused = inr (late graph query.report journeys graph.horizon _ refused)
+    by Degree source refused = inr (inl (late graph query.report journeys graph.horizon _ refused))
     by Bfs source refused = inl refl
-    by Components source refused = inr (late graph query.report journeys graph.horizon _ refused)
-    by Max source refused = inr (late graph query.report journeys graph.horizon _ refused)
+    by Components source refused = inr (inl (late graph query.report journeys graph.horizon _ refused))
+    by Max source refused = inr (inl (late graph query.report journeys graph.horizon _ refused))
     by Distance source refused = inl refl
-    by Rank source refused = inr (late graph query.report journeys graph.horizon _ refused)
+    by Rank source refused = inr (inl (late graph query.report journeys graph.horizon _ refused))
     by Reach source refused = inl refl
     by Earliest source refused = inl refl
     by Cheapest source refused = inl refl
     by Fastest source refused = inl refl
     by Latest source refused = inl refl
-    by Show source refused = inr (late_text graph query.report journeys graph.horizon refused)
+    by Show source refused = inr (inl (late_text graph query.report journeys graph.horizon refused))
+    by Made source refused = inr (inl (late_text graph query.report journeys graph.horizon refused))
 
 pub path_only : (query : PlainQuery) (graph : PlainGraph) → IsPath (asked_of query graph) → AsksJourneys query
 path_only query graph = by query.command (source_of query graph)
@@ -164,6 +167,7 @@ path_only query graph = by query.command (source_of query graph)
     by Fastest source path = refl
     by Latest source path = refl
     by Show source path = absurd (no_path_of_text graph query.report journeys graph.horizon path)
+    by Made source path = absurd (no_path_of_text graph query.report journeys graph.horizon path)
 
 -- where a program of journeys is allowed too few supersteps, the words say how many
 pub has_budget : (query : PlainQuery) (graph : PlainGraph) → AsksJourneys query → (lifespan_count graph + 1 ≤ steps_of query graph → ⊥) → HasBudget (Some query)
@@ -184,6 +188,7 @@ has_budget query graph = by query.command query.steps
     by Distance None window few = cc
     by Rank None window few = cc
     by Show None window few = cc
+    by Made None window few = cc
 
 -- ---- what is said of the answer to what is asked is said of the answer to the query
 

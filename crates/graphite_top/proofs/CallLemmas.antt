@@ -1,5 +1,5 @@
 -- What a call owes for a text of the source, and where the text is longer than a text may be.
-use Rattle.std.proofs.Common.{◌≡◌, ◌≢◌, ℕ, ◌+◌, ◌<◌, false, List, length, Option, Some, None, refl, sym, ap, subst, arith, leb, IfSome, inl, inr, ⊎_elim}
+use Rattle.std.proofs.Common.{◌≡◌, ◌≢◌, ℕ, ◌+◌, ◌<◌, false, List, length, Option, Some, None, refl, sym, ap, subst, arith, leb, IfSome, option_map, inl, inr, ⊎_elim}
 use Rattle.std.proofs.lemmas.Bool.{cond-false}
 use Rattle.std.proofs.lemmas.Bool.Decides.{nat_tests}
 use Rattle.std.specs.Io.KnownBytes.{Keeps}
@@ -9,10 +9,10 @@ use Rattle.graphite_base.proofs.KnownLemmas.{TookJust-length}
 use Rattle.graphite_text.specs.Reading.{Refused, reading_of, text_limit}
 use Rattle.graphite_top.specs.declared.status.Status.{Status}
 use Rattle.graphite_top.specs.declared.status.Status.TheVariants.{Done, TextRefused, WordsRefused, QueryRefused, Budget, ReadFault, WriteFault, NoMemory}
-use Rattle.graphite_words.specs.Words.{PlainQuery, query_of}
+use Rattle.graphite_words.specs.Words.{PlainMade, PlainQuery, query_of}
 use Rattle.graphite_top.specs.Answer.{Answer, text_refusal, words_refusal}
 use Rattle.graphite_top.specs.Journeys.{JourneyAsk, IsJourneyAnswer}
-use Rattle.graphite_top.specs.Output.{Output, Known, OfJourneys, query_output, output_of, text_output, reading_output}
+use Rattle.graphite_top.specs.Output.{Output, Known, OfJourneys, input_output, made_output, query_output, output_of, text_output, reading_output}
 use Rattle.graphite_report.specs.Written.{AppendsPrefix}
 use Rattle.graphite_report.proofs.ThroughLemmas.{Appends-none}
 use Rattle.graphite_top.specs.Call.{Answers, AnswersWith, EndsEarly, Writes, WritesThis, Gives, GivesThis}
@@ -70,17 +70,25 @@ Writes-journeys status ask answer old new before now is w = inr (answer, is, w)
 
 -- ---- what the words and the source decide
 
--- what is said of the refusal of a text is said of the answer to a query, where more bytes came than a text may have
-pub for_too_long : (P : Output → Type 0) (query : PlainQuery) (left rest : Option (List ℕ)) → TookJust left rest (text_limit + 1) → P (Known (text_refusal 0 16)) → IfSome (query_output (Some query) left) P
+-- what is said of the refusal of a text is said of the answer to the source, where more bytes came than a text may have
+pub for_too_long : (P : Output → Type 0) (query : PlainQuery) (left rest : Option (List ℕ)) → TookJust left rest (text_limit + 1) → P (Known (text_refusal 0 16)) → IfSome (option_map (text_output query) left) P
 for_too_long P query None rest took h = tt
 for_too_long P query (Some bytes) rest took h =
     let long : text_limit < length bytes = omega (arith, TookJust-length bytes rest (text_limit + 1) took) in
     subst P (sym (too_long query bytes long)) h
 
--- what is said of the answer to a text is said of that to a query, where the bytes of the source are that text
-pub for_whole : (P : Output → Type 0) (query : PlainQuery) (left rest : Option (List ℕ)) (text : List ℕ) → IsWhole left rest text → P (text_output query text) → IfSome (query_output (Some query) left) P
+-- what is said of the answer to a text is said of that to the source, where its bytes are that text
+pub for_whole : (P : Output → Type 0) (query : PlainQuery) (left rest : Option (List ℕ)) (text : List ℕ) → IsWhole left rest text → P (text_output query text) → IfSome (option_map (text_output query) left) P
 for_whole P query None rest text whole h = tt
 for_whole P query (Some bytes) rest text whole h = subst (λ bs. P (text_output query bs)) (sym whole.0) h
+
+-- what is said of the answer to the source is said of that to a query that reads it
+pub for_source : (P : Output → Type 0) (query : PlainQuery) (left : Option (List ℕ)) → query.made ≡ None → IfSome (option_map (text_output query) left) P → IfSome (query_output (Some query) left) P
+for_source P query left reads h = subst (λ made. IfSome (input_output made query left) P) (sym reads) h
+
+-- what is said of the answer to a made graph is said of that to a query that makes it
+pub for_made : (P : Output → Type 0) (query : PlainQuery) (left : Option (List ℕ)) (made : PlainMade) → query.made ≡ Some made → P (made_output made) → IfSome (query_output (Some query) left) P
+for_made P query left made makes h = subst (λ m. IfSome (input_output m query left) P) (sym makes) h
 
 -- what is said of the answer to a query is said of the output of the words that ask for it
 pub for_query : (P : Output → Type 0) (words : List (List ℕ)) (query : PlainQuery) (left : Option (List ℕ)) → query_of words ≡ Some query → IfSome (query_output (Some query) left) P → IfSome (output_of words left) P

@@ -1,5 +1,6 @@
 mod WorkedRuns
 pub mod CallLemmas
+pub mod MadeLemmas
 pub mod SnapLemmas
 pub mod PathLemmas
 pub mod AskedLemmas

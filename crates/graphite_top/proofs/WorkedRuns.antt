@@ -6,7 +6,7 @@ use Rattle.graphite_part.specs.Runs.{runs_of}
 use Rattle.graphite_text.specs.Reading.{reading_of}
 use Rattle.graphite_text.specs.Canonical.{canonical_text}
 use Rattle.graphite_api.specs.Calls.{is_quiet, supersteps_made, calls_in, calls_made}
-use Rattle.graphite_report.specs.Report.{vertex_lines, intervals_report, instant_report, sums_line, sums_report}
+use Rattle.graphite_report.specs.Report.{vertex_lines, intervals_report, instant_report, sums_line, sums_report, summary}
 use Rattle.graphite_words.specs.declared.table.Command.{Command}
 use Rattle.graphite_words.specs.declared.table.Command.TheVariants.{Degree, Bfs, Components, Max, Distance, Rank, Show}
 use Rattle.graphite_words.specs.declared.query.Report.{Report}
@@ -15,20 +15,20 @@ use Rattle.graphite_words.specs.Words.{PlainQuery}
 use Rattle.graphite_top.specs.declared.status.Status.TheVariants.{Done, TextRefused, QueryRefused}
 use Rattle.graphite_api.specs.declared.kind.Kind.TheVariants.{Fastest}
 use Rattle.graphite_top.specs.declared.asked.Asked.TheVariants.{NoWindow, Path}
-use Rattle.graphite_top.specs.Output.{Known, in_window, text_output}
+use Rattle.graphite_top.specs.Output.{Known, in_window, made_output, text_output}
 
 -- a query for a program without options, for one with a source, with a key, and with a number of supersteps
 abbrev plain : Command → Report → PlainQuery
-plain command report = record { command = command; vertex = None; key = None; from = 0; until = None; steps = None; report = report; told = None }
+plain command report = record { command = command; vertex = None; key = None; from = 0; until = None; steps = None; report = report; told = None; made = None }
 
 abbrev from : List ℕ → Command → PlainQuery
-from name command = record { command = command; vertex = Some name; key = None; from = 0; until = None; steps = None; report = Intervals; told = None }
+from name command = record { command = command; vertex = Some name; key = None; from = 0; until = None; steps = None; report = Intervals; told = None; made = None }
 
 abbrev under : List ℕ → Command → PlainQuery
-under key command = record { command = command; vertex = None; key = Some key; from = 0; until = None; steps = None; report = Intervals; told = None }
+under key command = record { command = command; vertex = None; key = Some key; from = 0; until = None; steps = None; report = Intervals; told = None; made = None }
 
 abbrev within : ℕ → Command → PlainQuery
-within steps command = record { command = command; vertex = None; key = None; from = 0; until = None; steps = Some steps; report = Intervals; told = None }
+within steps command = record { command = command; vertex = None; key = None; from = 0; until = None; steps = Some steps; report = Intervals; told = None; made = None }
 
 abbrev stops : List ℕ
 stops = codes "graph 1 10\nv a 0 10\nv b 0 10\nv c 2 8\ne ab a b 0 5\ne bc b c 3 7\nend\n"
@@ -105,3 +105,14 @@ too_long = refl
 
 no_window : in_window (record { kind = Fastest; vertex = 0; from = 5; until = 5 }) ≡ NoWindow
 no_window = refl
+
+-- a program on a made graph
+made : made_output (record { seed = 7; vertices = 1; edges = 0; horizon = 1; of = Degree })
+    ≡ Known (record { status = Done; text = codes "graphite made degree steps 0 calls 0\ntext 42\ngraph 1 0 1\nreport 1 1\nend\n" })
+unfolding reading_of canonical_text runs_of summary digits
+made = refl
+
+made_without_a_vertex : made_output (record { seed = 7; vertices = 0; edges = 0; horizon = 10; of = Bfs })
+    ≡ Known (record { status = QueryRefused; text = codes "refused query 1\n" })
+unfolding reading_of canonical_text digits
+made_without_a_vertex = refl

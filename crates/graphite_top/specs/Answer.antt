@@ -2,9 +2,9 @@
 use Rattle.std.specs.Prelude.{ℕ, List, ◌++◌, codes, decimal, Option, Some, None}
 use Rattle.graphite_text.specs.Graph.{PlainGraph}
 use Rattle.graphite_api.specs.declared.duration.Duration.{Duration}
-use Rattle.graphite_report.specs.Report.{Heading, Values, intervals_report, instant_report, sums_report}
+use Rattle.graphite_report.specs.Report.{Heading, Values, intervals_report, instant_report, sums_report, summary}
 use Rattle.graphite_words.specs.declared.query.Report.{Report}
-use Rattle.graphite_words.specs.declared.query.Report.TheVariants.{Intervals, Paths, Sums, At, PathAt}
+use Rattle.graphite_words.specs.declared.query.Report.TheVariants.{Intervals, Paths, Sums, At, PathAt, Summary}
 use Rattle.graphite_top.specs.declared.status.Status.{Status}
 use Rattle.graphite_top.specs.declared.status.Status.TheVariants.{Done, TextRefused, WordsRefused, QueryRefused, Budget}
 
@@ -35,6 +35,7 @@ report_text Sums heading graph values durations = sums_report heading graph valu
 report_text (At t) heading graph values durations = instant_report heading graph values t
 report_text Paths heading graph values durations = intervals_report heading graph values durations
 report_text (PathAt t) heading graph values durations = instant_report heading graph values t
+report_text (Summary bytes) heading graph values durations = summary heading graph bytes values
 
 -- a report, or the text of a graph
 abbrev pub report_answer : List ℕ → Answer

@@ -1,9 +1,10 @@
 -- What a call of the program writes, by cases on the words and the text.
-use Rattle.std.specs.Prelude.{◌≡◌, ℕ, ◌+◌, ◌-◌, ⊤, ◌⊎◌, ◌<◌, ◌≤◌, ◌&&◌, Bool, true, nat_le, nat_lt, is_some, IsSome, IsTrue, if◌then◌else◌, List, [], length, Option, Some, None, option_map, option_and_then, unwrap_or}
+use Rattle.std.specs.Prelude.{◌≡◌, min, codes, ℕ, ◌+◌, ◌-◌, ⊤, ◌⊎◌, ◌<◌, ◌≤◌, ◌&&◌, Bool, true, nat_le, nat_lt, is_some, IsSome, IsTrue, if◌then◌else◌, List, [], length, Option, Some, None, option_map, option_and_then, unwrap_or}
 use Rattle.graphite_text.specs.Canonical.{canonical_text}
 use Rattle.graphite_text.specs.Graph.{PlainGraph, vertex_is_alive, vertex_number}
 use Rattle.graphite_text.specs.Reading.{Reading, Accepted, Refused, reading_of}
 use Rattle.graphite_graph.specs.Ends.{lifespan_count}
+use Rattle.graphite_gen.specs.Made.{Recipe, made_graph}
 use Rattle.graphite_api.specs.declared.kind.Kind.{Kind}
 use Rattle.graphite_api.specs.declared.kind.Kind.TheVariants as kind
 use Rattle.graphite_api.specs.declared.path_query.PathQuery.{PathQuery}
@@ -15,11 +16,11 @@ use Rattle.graphite_top.specs.declared.asked.Asked.TheVariants.{Text, Snap, Path
 use Rattle.graphite_top.specs.declared.told.Whose.{Whose}
 use Rattle.graphite_top.specs.declared.told.Whose.TheVariants.{All, One}
 use Rattle.graphite_words.specs.declared.table.Command.{Command}
-use Rattle.graphite_words.specs.declared.table.Command.TheVariants.{Degree, Bfs, Components, Max, Distance, Rank, Reach, Earliest, Cheapest, Fastest, Latest, Show}
+use Rattle.graphite_words.specs.declared.table.Command.TheVariants.{Degree, Bfs, Components, Max, Distance, Rank, Reach, Earliest, Cheapest, Fastest, Latest, Show, Made}
 use Rattle.graphite_words.specs.declared.query.Report.{Report}
-use Rattle.graphite_words.specs.declared.query.Report.TheVariants.{Paths, At, PathAt}
+use Rattle.graphite_words.specs.declared.query.Report.TheVariants.{Paths, At, PathAt, Summary}
 use Rattle.graphite_words.specs.Table.{row_of, wants_vertex}
-use Rattle.graphite_words.specs.Words.{PlainQuery, query_of}
+use Rattle.graphite_words.specs.Words.{PlainMade, PlainQuery, query_of}
 use Rattle.graphite_top.specs.Answer.{Answer, instant_refusal, life_refusal, no_durations, report_answer, report_text, snap_heading, text_refusal, vertex_refusal, window_refusal, words_refusal}
 use Rattle.graphite_top.specs.Journeys.{JourneyAsk}
 
@@ -62,6 +63,8 @@ asked_by Cheapest source key from until = path_asked kind.Cheapest source from u
 asked_by Fastest source key from until = path_asked kind.Fastest source from until
 asked_by Latest source key from until = path_asked kind.Latest source from until
 asked_by Show source key from until = Text
+-- what is asked of a made graph is what the program that runs on it asks, so this stands for no question of its own
+asked_by Made source key from until = Text
 
 -- The vertex of a question about journeys is one of the graph, and its window ends by the horizon, holds an instant, and
 -- is short enough.
@@ -173,15 +176,21 @@ abbrev pub IsPath : Asked → Type 0
 IsPath (Path query) = ⊤
 IsPath asked = ⊥
 
--- a query that a graph can refuse: it names a vertex, or an instant
+-- the report is that of an instant
 abbrev pub GivesInstant : Report → Type 0
 GivesInstant (At t) = ⊤
 GivesInstant (PathAt t) = ⊤
 GivesInstant report = ⊥
 
+-- a program that starts from a vertex, or leads to one, is to run on a made graph that has none
+abbrev pub LacksVertex : Option PlainMade → Type 0
+LacksVertex None = ⊥
+LacksVertex (Some made) = (made.vertices ≡ 0) × IsTrue (wants_vertex (row_of made.of))
+
+-- a query that a graph can refuse: it names a vertex, or an instant, or its program lacks a vertex of the graph that is made
 abbrev pub CanBeRefused : Option PlainQuery → Type 0
 CanBeRefused None = ⊥
-CanBeRefused (Some query) = IsTrue (wants_vertex (row_of query.command)) ⊎ GivesInstant query.report
+CanBeRefused (Some query) = IsTrue (wants_vertex (row_of query.command)) ⊎ (GivesInstant query.report ⊎ LacksVertex query.made)
 
 -- a query about journeys: they alone may be given a window
 abbrev pub AsksJourneys : PlainQuery → Type 0
@@ -223,10 +232,56 @@ reading_output query (Refused line rule) = Known (text_refusal line rule)
 abbrev pub text_output : PlainQuery → List ℕ → Output
 text_output query bytes = reading_output query (reading_of bytes)
 
--- what is written for the bytes of the source, where it tells them, and for words that ask for a program or for none
+-- ---- a graph that is made
+
+-- the numbers that it is made from, and its text
+abbrev pub recipe_of : PlainMade → Recipe
+recipe_of made = record { seed = made.seed; vertices = made.vertices; edges = made.edges; horizon = made.horizon }
+
+abbrev pub made_text : PlainMade → List ℕ
+made_text made = canonical_text (made_graph (recipe_of made))
+
+-- where the window ends of the program that runs on it: at the horizon, but for the fastest journeys after 4,096 instants at
+-- the latest
+abbrev pub made_until : Command → (horizon : ℕ) → Option ℕ
+made_until Fastest horizon = Some (min horizon 4096)
+made_until command horizon = None
+
+-- the query that runs on it, where its text has so many bytes: the program starts from or leads to the vertex `v0`, reads the
+-- property `size`, looks at all instants from the first one on, and is allowed as many supersteps as are usual for it
+abbrev pub query_on_made : PlainMade → (bytes : ℕ) → PlainQuery
+query_on_made made bytes = record {
+  command = made.of;
+  vertex = Some (codes "v0");
+  key = Some (codes "size");
+  from = 0;
+  until = made_until made.of made.horizon;
+  steps = None;
+  report = Summary bytes;
+  told = None;
+  made = None;
+}
+
+-- what is written for it: the answer of that query to its text
+abbrev pub made_output : PlainMade → Output
+made_output made = text_output (query_on_made made (length (made_text made))) (made_text made)
+
+-- ---- the words and the source
+
+-- what is written for a query: for the graph that it makes, or for the bytes of the source, where it tells them
+abbrev pub input_output : Option PlainMade → PlainQuery → Option (List ℕ) → Option Output
+input_output (Some made) query left = Some (made_output made)
+input_output None query left = option_map (text_output query) left
+
+-- what is written for words that ask for a program or for none
 abbrev pub query_output : Option PlainQuery → Option (List ℕ) → Option Output
 query_output None left = Some (Known words_refusal)
-query_output (Some query) left = option_map (text_output query) left
+query_output (Some query) left = input_output query.made query left
+
+-- the words ask for a program that reads the source
+abbrev pub ReadsSource : Option PlainQuery → Type 0
+ReadsSource None = ⊥
+ReadsSource (Some query) = query.made ≡ None
 
 -- what is written for the words and the bytes of the source, where it tells them
 abbrev pub output_of : List (List ℕ) → Option (List ℕ) → Option Output

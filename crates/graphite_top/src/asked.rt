@@ -64,7 +64,7 @@ pub fn journeys_of(query: &Query, graph: &Graph<'_>) -> Option<Whose>
             let vertex = graph.find_vertex(query.told.as_ref()?.as_slice())?;
             Some(Whose::One(vertex, t))
         }
-        Report::Intervals | Report::Sums | Report::At(_) => None,
+        Report::Intervals | Report::Sums | Report::At(_) | Report::Summary(_) => None,
     }
 }
 
@@ -112,7 +112,7 @@ fn is_told_in_time(report: Report, horizon: u64) -> bool
 {
     match report {
         Report::At(t) | Report::PathAt(t) => t < horizon,
-        Report::Intervals | Report::Paths | Report::Sums => true,
+        Report::Intervals | Report::Paths | Report::Sums | Report::Summary(_) => true,
     }
 }
 
@@ -234,6 +234,6 @@ fn asked_by(
         Command::Cheapest => path_asked(Kind::Cheapest, source, window),
         Command::Fastest => path_asked(Kind::Fastest, source, window),
         Command::Latest => path_asked(Kind::Latest, source, window),
-        Command::Show => Asked::Text,
+        Command::Show | Command::Made => Asked::Text,
     })
 }

@@ -1,12 +1,12 @@
 //! The whole of the program, once it has its words.
-ghost use Rattle.std.specs.Prelude.{◌≡◌, ◌≢◌, ◌≤◌, ℕ, Bool, true, false, map, length, string_bytes, IfOk, IfSome, IsSome};
+ghost use Rattle.std.specs.Prelude.{◌≡◌, ◌≢◌, ◌≤◌, ℕ, Bool, true, false, map, length, string_bytes, IfOk, IfSome, Some, option_map};
 ghost use Rattle.std.specs.Io.KnownBytes.{Keeps};
 ghost use Rattle.graphite_base.specs.Causes.{Rose};
 ghost use Rattle.graphite_base.specs.Known.{IsEmptied};
 ghost use Rattle.graphite_text.specs.Canonical.{canonical_text};
 ghost use Rattle.graphite_text.specs.Reading.{text_limit};
 ghost use Rattle.graphite_top.specs.Answer.{report_answer, text_refusal, words_refusal};
-ghost use Rattle.graphite_top.specs.Output.{graph_output, output_of, query_output, text_output, journeys_of, steps_of, usual_steps, CanBeRefused, HasBudget, IsToldIn};
+ghost use Rattle.graphite_top.specs.Output.{graph_output, output_of, query_output, text_output, journeys_of, steps_of, usual_steps, CanBeRefused, HasBudget, IsToldIn, ReadsSource};
 ghost use Rattle.graphite_words.specs.Query.{number_given, plain_query};
 ghost use Rattle.graphite_words.specs.Table.{row_of};
 ghost use Rattle.graphite_words.specs.Words.{query_of};
@@ -14,6 +14,7 @@ ghost use Rattle.graphite_top.specs.Call.{Answers, Writes, WritesThis, Gives, Is
 
 use crate::Status;
 use crate::asked::{Asked, asked_of, journeys_of};
+use crate::made::answer_made;
 use crate::path::write_path;
 use crate::snap::write_snap;
 use crate::told::Telling;
@@ -27,7 +28,7 @@ use std::alloc::Global;
 
 /// Does what the words ask for with the text of the source, and writes the report or the refusal to
 /// the sink: the whole of the program, once it has its words. `words` are those after the program's
-/// own name. Where they are refused, the source is not touched.
+/// own name. Where they are refused, or ask for a graph that is made, the source is not touched.
 pub fn run<S: Source, K: Sink>(
     alloc: Global,
     words: &[String],
@@ -49,29 +50,31 @@ pub fn run<S: Source, K: Sink>(
 
     // When each fault comes. Without a number of supersteps in the words no budget ends.
     ensures read_fault { result ≡ Status.ReadFault
-        → IsSome (query_of (map string_bytes words.now)) × Rose (S.faults source.old) (S.faults source.new) }
+        → ReadsSource (query_of (map string_bytes words.now)) × Rose (S.faults source.old) (S.faults source.new) }
     ensures nothing_written { result ≡ Status.ReadFault → Keeps (K.written sink.old) (K.written sink.new) }
     ensures write_fault { result ≡ Status.WriteFault → Rose (K.faults sink.old) (K.faults sink.new) }
     ensures words_refused { result ≡ Status.WordsRefused → query_of (map string_bytes words.now) ≡ None }
+    ensures text_refused { result ≡ Status.TextRefused → ReadsSource (query_of (map string_bytes words.now)) }
     ensures query_refused { result ≡ Status.QueryRefused → CanBeRefused (query_of (map string_bytes words.now)) }
     ensures budget { result ≡ Status.Budget → HasBudget (query_of (map string_bytes words.now)) }
 
-    // What becomes of the source.
-    ensures untouched { query_of (map string_bytes words.now) ≡ None → source.new ≡ source.old }
-    ensures emptied { IsReadThrough result (S.left source.old) (S.left source.new) }
+    // What becomes of the source. Words that are refused, and a graph that is made, leave it as it was.
+    ensures untouched { ¬ ReadsSource (query_of (map string_bytes words.now)) → source.new ≡ source.old }
+    ensures emptied { ReadsSource (query_of (map string_bytes words.now))
+        → IsReadThrough result (S.left source.old) (S.left source.new) }
 
     // No count of faults falls.
     ensures later { (S.faults source.old ≤ S.faults source.new) × (K.faults sink.old ≤ K.faults sink.new) }
 {
     match query_of(alloc, words) {
-        Ok(query) => answer_source(alloc, &query, source, sink),
+        Ok(query) => answer_query(alloc, &query, source, sink),
         Err(WordsFault::Refused) => write(sink, b"refused words\n", Status::WordsRefused),
         Err(WordsFault::NoMemory) => Status::NoMemory,
     }
 }
 
-/// Reads the source and writes the answer to a query.
-fn answer_source<S: Source, K: Sink>(
+/// Writes the answer to a query, for the graph that it makes or for the text of the source.
+fn answer_query<S: Source, K: Sink>(
     alloc: Global,
     query: &Query,
     source: &mut S,
@@ -83,6 +86,39 @@ fn answer_source<S: Source, K: Sink>(
         → ¬ Rose (K.faults sink.old) (K.faults sink.new)
         → result ≢ Status.NoMemory
         → IfSome (query_output (Some (plain_query query.now)) (S.left source.old))
+        (λ output. Gives result output (K.written sink.old) (K.written sink.new)) }
+    ensures read_fault { result ≡ Status.ReadFault
+        → ReadsSource (Some (plain_query query.now)) × Rose (S.faults source.old) (S.faults source.new) }
+    ensures nothing_written { result ≡ Status.ReadFault → Keeps (K.written sink.old) (K.written sink.new) }
+    ensures write_fault { result ≡ Status.WriteFault → Rose (K.faults sink.old) (K.faults sink.new) }
+    ensures words_accepted { result ≢ Status.WordsRefused }
+    ensures text_refused { result ≡ Status.TextRefused → ReadsSource (Some (plain_query query.now)) }
+    ensures query_refused { result ≡ Status.QueryRefused → CanBeRefused (Some (plain_query query.now)) }
+    ensures budget { result ≡ Status.Budget → HasBudget (Some (plain_query query.now)) }
+    ensures untouched { ¬ ReadsSource (Some (plain_query query.now)) → source.new ≡ source.old }
+    ensures emptied { ReadsSource (Some (plain_query query.now))
+        → IsReadThrough result (S.left source.old) (S.left source.new) }
+    ensures later { (S.faults source.old ≤ S.faults source.new) × (K.faults sink.old ≤ K.faults sink.new) }
+{
+    match query.made {
+        Some(made) => answer_made(alloc, made, sink),
+        None => answer_source(alloc, query, source, sink),
+    }
+}
+
+/// Reads the source and writes the answer to a query.
+fn answer_source<S: Source, K: Sink>(
+    alloc: Global,
+    query: &Query,
+    source: &mut S,
+    sink: &mut K,
+) -> Status
+    ensures answer { IfSome (option_map (text_output (plain_query query.now)) (S.left source.old))
+        (λ output. Answers result output (K.written sink.old) (K.written sink.new)) }
+    ensures complete { ¬ Rose (S.faults source.old) (S.faults source.new)
+        → ¬ Rose (K.faults sink.old) (K.faults sink.new)
+        → result ≢ Status.NoMemory
+        → IfSome (option_map (text_output (plain_query query.now)) (S.left source.old))
         (λ output. Gives result output (K.written sink.old) (K.written sink.new)) }
     ensures read_fault { result ≡ Status.ReadFault → Rose (S.faults source.old) (S.faults source.new) }
     ensures nothing_written { result ≡ Status.ReadFault → Keeps (K.written sink.old) (K.written sink.new) }
@@ -102,7 +138,12 @@ fn answer_source<S: Source, K: Sink>(
 }
 
 /// Writes the answer to a text.
-fn answer_text<K: Sink>(alloc: Global, query: &Query, text: &[u8], sink: &mut K) -> Status
+pub(crate) fn answer_text<K: Sink>(
+    alloc: Global,
+    query: &Query,
+    text: &[u8],
+    sink: &mut K,
+) -> Status
     ensures writes { Writes result (text_output (plain_query query.now) text.now) (K.written sink.old) (K.written sink.new) (K.faults sink.old) (K.faults sink.new) }
     ensures query_refused { result ≡ Status.QueryRefused → CanBeRefused (Some (plain_query query.now)) }
     ensures budget { result ≡ Status.Budget → HasBudget (Some (plain_query query.now)) }

@@ -5,6 +5,7 @@ mod asked;
 mod call;
 mod journeys;
 mod laws;
+mod made;
 mod path;
 mod snap;
 mod status;
@@ -15,6 +16,8 @@ pub use call::run;
 pub use laws::{a_told_journey_has_the_value, an_answer_is_one};
 pub use status::Status;
 
+#[cfg(test)]
+mod made_tests;
 #[cfg(test)]
 mod path_tests;
 #[cfg(test)]

@@ -20,7 +20,7 @@ const NO_SUCH_VERTEX: &[u8] = b"refused query 1\n";
 
 const NO_SUCH_INSTANT: &[u8] = b"refused query 2\n";
 
-fn words_of(alloc: Global, words: &[&str]) -> Result<Vec<String>, AllocError> {
+pub(crate) fn words_of(alloc: Global, words: &[&str]) -> Result<Vec<String>, AllocError> {
     let mut all = Vec::new(alloc);
     for word in words {
         all.push(String::from_str(alloc, word)?)?;

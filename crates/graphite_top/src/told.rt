@@ -13,7 +13,9 @@ use graphite_base::Sink;
 use graphite_graph::Graph;
 use graphite_part::Partition;
 use graphite_paths::PathAnswer;
-use graphite_report::{Head, ReportFault, write_instant, write_intervals, write_sums};
+use graphite_report::{
+    Head, ReportFault, write_instant, write_intervals, write_summary, write_sums,
+};
 use graphite_words::{Report, Steps};
 use std::alloc::Global;
 
@@ -58,6 +60,7 @@ pub fn write_values<K: Sink>(
         ),
         Report::Sums => write_sums(alloc, sink, graph, head, values),
         Report::At(t) | Report::PathAt(t) => write_instant(alloc, sink, graph, head, values, t),
+        Report::Summary(bytes) => write_summary(alloc, sink, graph, head, values, bytes),
     }
 }
 

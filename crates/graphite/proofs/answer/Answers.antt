@@ -1,7 +1,9 @@
 -- The answer to the words that are given, and what stands where they find no memory.
-use Rattle.std.proofs.Common.{map, string_bytes, refl, ap, subst, ◌∙◌, arith}
+use Rattle.std.proofs.Common.{◌≡◌, map, string_bytes, refl, ap, subst, ◌∙◌, arith}
 use Rattle.std.specs.Vec.Iter.{into_iter_items}
 use Rattle.graphite_top.proofs.CallLemmas.{unwritten}
+use Rattle.graphite_top.specs.Output.{ReadsSource}
+use Rattle.graphite_words.specs.Words.{query_of}
 use Rattle.graphite.specs.Served.{IsAnswered, words_of}
 use Rattle.graphite.proofs.answer.Goals as goal
 
@@ -17,7 +19,9 @@ returns-in-Ok-clause-answered g c =
       nothing_written = c.run.ensures.nothing_written;
       write_fault = c.run.ensures.write_fault;
       words_refused = c.run.ensures.words_refused;
+      text_refused = c.run.ensures.text_refused;
       query_refused = c.run.ensures.query_refused;
+      budget = c.run.ensures.budget;
       emptied = c.run.ensures.emptied;
       later = c.run.ensures.later;
     })
@@ -30,7 +34,14 @@ returns-in-Err-clause-answered g c = record {
   nothing_written = λ e. cc;
   write_fault = λ e. cc;
   words_refused = λ e. cc;
+  text_refused = λ e. cc;
   query_refused = λ e. cc;
-  emptied = tt;
+  budget = λ e. cc;
+  emptied = λ _. tt;
   later = (omega arith, omega arith);
 }
+
+pub returns-in-Ok-clause-untouched : goal.returns-in-Ok-clause-untouched
+returns-in-Ok-clause-untouched g c =
+    subst (λ words. (ReadsSource (query_of words) → ⊥) → c.run.new.source ≡ c.args.source.now)
+    (ap (map string_bytes) (c.deref.ensures.value ∙ c.in-Ok.ensures)) c.run.ensures.untouched

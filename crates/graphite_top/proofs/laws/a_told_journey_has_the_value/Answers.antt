@@ -1,5 +1,4 @@
 -- The value of the journey is the best one, and there is one best value.
-use Rattle.std.proofs.Common.{◌≡◌}
 use Rattle.graphite_text.specs.Graph.{vertex_is_alive}
 use Rattle.graphite_api.specs.Journey.{journey_value}
 use Rattle.graphite_api.proofs.WrittenLemmas.{best-one}
