@@ -1,7 +1,8 @@
 #!/usr/bin/env python3
-"""Compares the built program with another one, byte by byte, on made texts of five shapes.
+"""Compares the built program with another one, byte by byte, on made texts of five shapes, and on `made`.
 
-    bench/same.py --peer PATH --make PATH [--program PATH] [--texts N] [--lists N] [--edges N]
+    bench/same.py --peer PATH --make PATH [--program PATH] [--texts N] [--lists N] [--edges N] [--made N]
+    bench/same.py --peer PATH --texts 0 --made N [--program PATH] [--first N]
 
 For each shape and each of N seeds there is a text. Four shapes are written by the program at --make: `made` (lives and
 edges spread at random), `timetable` (edges of one instant, in epoch milliseconds), `contacts` (short edges) and `supply`
@@ -14,6 +15,12 @@ Both programs run on each text the six programs of snapshots, with keys that it 
 and as many lists of words as --lists says for a program of journeys, from the ends of its edges, with windows and instants
 near those of its edges, half of them with written journeys. A line a shape says how many runs gave the same bytes and exit code, and how many of them ended
 with which; the exit code is 0 where all were the same. The program is bin/graphite where no path is given.
+
+With --made N there is one more line: N sets of options of `made` (from number --first on), each with the eleven programs.
+The first sets are those at the ends: the least and the greatest seed, no vertex, one vertex, no edge, the horizons 1, 2 and
+17,592,186,044,416; the others are drawn. `rank` has at most 60 vertices and 200 edges, since its time grows with the
+number of vertices times that of instants of change. The standard input of the program is to play no part: it is in turn
+a pipe that is closed, a pipe with bytes, all of which have to be there afterwards, and a folder, which cannot be read.
 """
 import argparse
 import collections
@@ -23,7 +30,17 @@ import subprocess
 import sys
 
 TOP = os.path.dirname(os.path.dirname(os.path.abspath(__file__)))
+SNAPSHOTS = ['degree', 'bfs', 'components', 'max', 'distance', 'rank']
 JOURNEYS = ['reach', 'earliest', 'cheapest', 'fastest', 'latest']
+LAST = 17_592_186_044_416
+# Sets of options of `made`: the seed, the vertices, the edges and the horizon.
+ENDS = [
+    (0, 0, 0, 1), (2 ** 64 - 1, 0, 0, LAST), (7, 1, 0, 1), (7, 1, 5, 1), (0, 1, 5, LAST), (2 ** 64 - 1, 2, 9, 2),
+    (2 ** 63, 2000, 5000, LAST), (2 ** 63 - 1, 2000, 0, 2), (2 ** 64 - 1, 2000, 5000, 1), (0, 2000, 5000, 2),
+    (1, 2000, 1, 3), (2 ** 32, 3, 5000, 4096), (2 ** 32 - 1, 3, 5000, 4097), (2 ** 64 - 2, 60, 200, LAST - 1), (2, 2, 5000, 4),
+]
+# What standard input is, since it is to play no part.
+INPUTS = ['closed', 'bytes', 'folder']
 
 
 def sizes(shape, edges, draw):
@@ -122,17 +139,88 @@ def answer(program, words, text):
     return done.returncode, done.stdout
 
 
+def made_set(number):
+    """The set of options with a number."""
+    if number < len(ENDS):
+        return ENDS[number]
+    draw = random.Random('set %d' % number)
+    vertices = draw.choice([1, draw.randrange(1, 10), draw.randrange(1, 100), draw.randrange(1, 2001)])
+    edges = draw.choice([0, draw.randrange(20), draw.randrange(500), draw.randrange(5001)])
+    horizon = draw.choice([1, 2, draw.randrange(1, 20), draw.randrange(1, 5000), 10 ** draw.randrange(14), draw.randrange(1, LAST + 1),
+                           LAST - draw.randrange(3)])
+    return draw.choice([0, 2 ** 64 - 1, draw.getrandbits(8), draw.getrandbits(32), draw.getrandbits(64)]), vertices, edges, horizon
+
+
+def made_words(numbers, program):
+    """The words of `made`, with its options in any order and both forms."""
+    seed, vertices, edges, horizon = numbers
+    if program == 'rank':
+        vertices, edges = min(vertices, 60), min(edges, 200)
+    options = [('seed', seed), ('vertices', vertices), ('edges', edges), ('horizon', horizon), ('of', program)]
+    draw = random.Random(str(options))
+    draw.shuffle(options)
+    words = ['made']
+    for option, value in options:
+        words += ['--%s=%s' % (option, value)] if draw.random() < 0.3 else ['--' + option, str(value)]
+    return words
+
+
+def answer_beside(program, words, kind):
+    """The exit code, the output, and whether standard input was left as it was."""
+    if kind == 'folder':
+        source, given = os.open('/', os.O_RDONLY), b''
+    else:
+        given = b'' if kind == 'closed' else b'graph 1 10\nv v0 0 10\nend\n\xff\x00' * 300
+        source, end = os.pipe()
+        os.write(end, given)
+        os.close(end)
+    try:
+        done = subprocess.run([program] + words, stdin=source, stdout=subprocess.PIPE)
+        left = b'' if kind == 'folder' else os.read(source, len(given) + 1)
+    finally:
+        os.close(source)
+    return (done.returncode, done.stdout), left == given
+
+
+def same_made(args):
+    """Compares the two programs on sets of options of `made`; how many runs were the same, and the exit codes."""
+    same, codes = 0, collections.Counter()
+    for number in range(args.first, args.first + args.made):
+        for program in SNAPSHOTS + JOURNEYS:
+            words = made_words(made_set(number), program)
+            kind = INPUTS[sum(codes.values()) % len(INPUTS)]
+            own, is_left = answer_beside(args.program, words, kind)
+            codes[own[0]] += 1
+            is_same = own == answer(args.peer, words, b'')
+            same += is_same and is_left
+            if not (is_same and is_left):
+                print('%s: set %d, input %s | %s' % ('INPUT TAKEN' if is_same else 'DIFFERENT', number, kind, ' '.join(words)))
+    return same, codes
+
+
+def is_all(told, same, codes):
+    """Prints how many runs were the same; whether all were."""
+    runs = sum(codes.values())
+    ends = ', '.join('%d with exit code %d' % (codes[code], code) for code in sorted(codes))
+    print('%s, %d of %d runs the same; %s' % (told, same, runs, ends), flush=True)
+    return same == runs
+
+
 def main():
-    ask = argparse.ArgumentParser(description='compares the built program with another one on made texts')
+    ask = argparse.ArgumentParser(description=__doc__, formatter_class=argparse.RawDescriptionHelpFormatter)
     ask.add_argument('--program', default=os.path.join(TOP, 'bin', 'graphite'))
     ask.add_argument('--peer', required=True)
-    ask.add_argument('--make', required=True)
+    ask.add_argument('--make')
     ask.add_argument('--texts', type=int, default=20)
     ask.add_argument('--lists', type=int, default=10)
     ask.add_argument('--edges', type=int, default=300)
+    ask.add_argument('--made', type=int, default=0)
+    ask.add_argument('--first', type=int, default=0)
     args = ask.parse_args()
+    if args.texts and not args.make:
+        ask.error('--make is wanted, but for --texts 0')
     all_same = True
-    for shape in ('made', 'timetable', 'contacts', 'supply', 'town'):
+    for shape in ('made', 'timetable', 'contacts', 'supply', 'town') if args.texts else ():
         same, codes = 0, collections.Counter()
         for seed in range(1, args.texts + 1):
             draw = random.Random('%s %d' % (shape, seed))
@@ -146,10 +234,9 @@ def main():
                     same += 1
                 else:
                     print('DIFFERENT: %s | %s' % (origin, ' '.join(words)))
-        runs = sum(codes.values())
-        told = ', '.join('%d with exit code %d' % (codes[code], code) for code in sorted(codes))
-        print('%s: %d texts, %d of %d runs the same; %s' % (shape, args.texts, same, runs, told), flush=True)
-        all_same = all_same and same == runs
+        all_same = is_all('%s: %d texts' % (shape, args.texts), same, codes) and all_same
+    if args.made:
+        all_same = is_all('the program `made`: %d sets' % args.made, *same_made(args)) and all_same
     return 0 if all_same else 1
 
 

@@ -4,7 +4,7 @@
     bench/words.py --peer PATH [--program PATH] [--lists N] [--seed N]
 
 N lists of words are drawn: a program's word or another one, and then options and values, right and wrong, in both
-forms and in any order. Both programs are given them with the same small text. Prints each list that is answered
+forms and in any order. Both programs are given them with the same small text, which `made` is not to look at. Prints each list that is answered
 differently, and how many ended with each exit code; the exit code is 0 where all answers are the same. The program is
 bin/graphite where no path is given.
 """
@@ -33,9 +33,10 @@ end
 
 SNAPSHOTS = ['degree', 'bfs', 'components', 'max', 'distance', 'rank']
 JOURNEYS = ['reach', 'earliest', 'cheapest', 'fastest', 'latest']
-PROGRAMS = SNAPSHOTS + JOURNEYS + ['show']
+MADE = ['seed', 'vertices', 'edges', 'horizon', 'of']
+PROGRAMS = SNAPSHOTS + JOURNEYS + ['show', 'made', 'made']
 WANTED = {'max': ['key'], **{program: ['source'] for program in ['bfs', 'distance'] + JOURNEYS},
-          'fastest': ['source', 'until'], 'latest': ['target']}
+          'fastest': ['source', 'until'], 'latest': ['target'], 'made': MADE}
 OTHERS = ['', 'Degree', 'bf', 'help', '--help', '-h', '-', '--', 'a', '--version']
 VALUES = {
     'source': ['a', 'b', '-x', 'z', '', '-', '--', '--steps'],
@@ -47,31 +48,43 @@ VALUES = {
     'report': ['sums', 'intervals', 'paths', 'Intervals', 'path', '', 'sum'],
     'at': ['0', '3', '9', '4999', '5000', '17592186044416', '17592186044417', '03', '', '-3', '18446744073709551616'],
     'path': ['b', 'c', 'a', '-x', 'z', '', '-', '--at'],
+    'seed': ['7', '0', '18446744073709551615', '18446744073709551616', '9223372036854775808', '07', '-1', '+7', '', '7 ', 'a'],
+    # no 1,000,000 of them, which takes some programs very long
+    'vertices': ['10', '3', '40', '1', '0', '00', '010', '1000001', '4294967306', '-1', '+1', '', '1.0', 'a', '99999999999999999999'],
+    'edges': ['30', '4', '60', '0', '1', '00', '030', '1000001', '4294967297', '-1', '+1', '', ' 1', 'a', '99999999999999999999'],
+    'horizon': ['100', '17592186044416', '2', '1', '3', '0', '0100', '17592186044417', '18446744073709551617', '-1', '+1', '', 'a'],
+    'of': SNAPSHOTS + JOURNEYS + ['show', 'made', 'Degree', 'bf', '', '-', '--of', 'degree ', 'check'],
 }
 STRAYS = ['extra', '-', '--', '--help', '-h', '-V', '--stepsx', '--step', '--source', '--at', '--path', '-at', '--=3', '--from',
-          '--until=3', '=']
+          '--until=3', '=', '--of', '--seed=1', '--horizon', '--vertices=0', '--made']
 
 
 def draw_value(draw, option):
-    good = draw.random() < 0.8
+    if option == 'of' and draw.random() < 0.8:
+        return draw.choice(SNAPSHOTS + JOURNEYS)
+    # made takes five: one that is broken is to be seldom enough that the others matter
+    good = draw.random() < (0.93 if option in MADE else 0.8)
     return VALUES[option][0 if good and draw.random() < 0.5 else draw.randrange(3 if good else len(VALUES[option]))]
 
 
 def draw_words(draw):
     program = draw.choice(PROGRAMS if draw.random() < 0.9 else OTHERS)
     words = [program] if draw.random() < 0.97 else []
-    options = [o for o in WANTED.get(program, []) if draw.random() < 0.9]
-    fitting = ['steps'] + (['from'] if program in JOURNEYS else [])
-    fitting += ['until'] if program in JOURNEYS and 'until' not in options else []
-    options += draw.sample(fitting, draw.randrange(len(fitting) + 1))
-    options += draw.choice([[], ['report'], ['at']] + ([['at', 'path']] if program in JOURNEYS else []))
+    options = [o for o in WANTED.get(program, []) if draw.random() < (0.98 if program == 'made' else 0.9)]
+    if program != 'made':
+        fitting = ['steps'] + (['from'] if program in JOURNEYS else [])
+        fitting += ['until'] if program in JOURNEYS and 'until' not in options else []
+        options += draw.sample(fitting, draw.randrange(len(fitting) + 1))
+        options += draw.choice([[], ['report'], ['at']] + ([['at', 'path']] if program in JOURNEYS else []))
     # now and then one that does not fit, or that is there already
     options += [draw.choice(list(VALUES)) for _ in range(draw.choice([0, 0, 0, 1]))]
     draw.shuffle(options)
+    # a graph of nothing, in which no source is found
+    empty = program == 'made' and draw.random() < 0.12
     for option in options:
-        value = draw_value(draw, option)
+        value = '0' if empty and option in ('vertices', 'edges') and draw.random() < 0.9 else draw_value(draw, option)
         words += ['--%s=%s' % (option, value)] if draw.random() < 0.4 else ['--' + option, value]
-    if draw.random() < 0.12:
+    if draw.random() < (0.06 if program == 'made' else 0.12):
         words.insert(draw.randrange(len(words) + 1), draw.choice(STRAYS))
     return words
 
@@ -89,15 +102,16 @@ def main():
     ask.add_argument('--seed', type=int, default=1)
     args = ask.parse_args()
     draw = random.Random(args.seed)
-    same, codes = 0, collections.Counter()
+    same, codes, made = 0, collections.Counter(), collections.Counter()
     for _ in range(args.lists):
         words = draw_words(draw)
         own, other = answer(args.program, words), answer(args.peer, words)
         same += own == other
         codes[own[0]] += 1
+        made[own[0]] += 'made' in words
         if own != other:
             print('DIFFERENT: %r\n  %r\n  %r' % (words, own, other))
-    told = ', '.join('%d with exit code %d' % (codes[code], code) for code in sorted(codes))
+    told = ', '.join('%d with exit code %d (%d of them with `made`)' % (codes[code], code, made[code]) for code in sorted(codes))
     print('%d lists of words, %d answered the same; %s' % (args.lists, same, told))
     return 0 if same == args.lists else 1
 
