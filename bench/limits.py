@@ -2,7 +2,7 @@
 """Runs the built program at each limit and one past it, and on names that are alike, beside another program.
 
     bench/limits.py [--program PATH] [--peer PATH] [--only WORD[,WORD..]] [--folder PATH]
-    bench/limits.py --names N[,N..] [--keys N] [--repeat N] [--program PATH] [--peer PATH] [--only WORD[,WORD..]]
+    bench/limits.py --names N[,N..] [--colliding] [--keys N] [--repeat N] [--program PATH] [--peer PATH] [--only WORD[,WORD..]]
 
 The first form prints a table: what is at its limit or one past it, the size of the text, the exit code, the processor seconds
 and the peak memory in MB of 2^20 bytes, of the program and of the one at --peer, and whether the answer is right: the exit
@@ -14,8 +14,10 @@ below that of this script, some 20 MB, shows as that.
 With --names there is another table: a text of N vertices, and N edges between them, whose names are of one shape, or a vertex
 with so many properties (no more than --keys, 10,000) whose keys are, and the least processor seconds of `degree` on it of --repeat runs (3). The shapes are
 random bytes, counting, names that share all but a few bytes at either end, that differ from another one in one byte, that have the
-same bytes in another order, and those of one sum if each byte counts 31 or 33 times the one behind it. How names are hashed is not
-known here, so none are made to collide. With --only those lines alone whose first column has one of the words.
+same bytes in another order, and those of one sum if each byte counts 31 or 33 times the one behind it. With --colliding there are names
+besides that collide on purpose: the table of names begins to look for all of them at one place. They are found by trying, which wants a C
+compiler and a few seconds for 100,000, and the way in which the toolchain's `IndexSet` hashes (its seed is fixed) is written out for it here.
+With --only those lines alone whose first column has one of the words.
 The exit code is 1 where an answer was not right, or a shape took more than four times the time of random names, and half a second.
 """
 import argparse
@@ -260,6 +262,50 @@ def sums(blocks):
     return names
 
 
+# Prints so many names of ten letters whose hashes have the same low bits. A slice is hashed by its length in eight bytes and then byte
+# by byte; each write joins the two halves of a product of 128 bits. The state behind all letters but two is kept.
+COLLIDING = r'''
+#include <stdint.h>
+#include <stdio.h>
+#include <stdlib.h>
+#include <string.h>
+static uint64_t put(uint64_t state, uint64_t part, uint64_t size) {
+    unsigned __int128 product = (unsigned __int128)(state ^ part) * (0x9e3779b97f4a7c15u ^ 2 * size);
+    return (uint64_t)product ^ (uint64_t)(product >> 64);
+}
+static uint64_t put_byte(uint64_t state, unsigned char byte) { return put(state, byte * 0x010101u, 1); }
+int main(int count, char **words) {
+    long wanted = atol(words[1]), low = atol(words[2]) - 1;
+    const char *letters = words[3];
+    int kinds = strlen(letters);
+    for (uint64_t k = 0; count == 4 && wanted; k++) {
+        char name[11] = {0};
+        uint64_t rest = k, state = put(0x243f6a8885a308d3u, 10, 8);
+        for (int at = 0; at < 8; at++, rest /= kinds) { name[at] = letters[rest % kinds]; state = put_byte(state, name[at]); }
+        for (int i = 0; i < kinds; i++) {
+            uint64_t last = put_byte(state, letters[i]);
+            for (int j = 0; j < kinds && wanted; j++)
+                if (!(put_byte(last, letters[j]) & low)) { name[8] = letters[i]; name[9] = letters[j]; puts(name); wanted--; }
+        }
+    }
+}
+'''
+
+
+def colliding(draw, count, size):
+    """Names for which a table of so many names, nine for each of its groups, begins to look in its first group."""
+    groups = 1
+    while 9 * groups < count:
+        groups *= 2
+    with tempfile.TemporaryDirectory() as folder:
+        source, finder = os.path.join(folder, 'colliding.c'), os.path.join(folder, 'colliding')
+        with open(source, 'w') as out:
+            out.write(COLLIDING)
+        subprocess.run([os.environ.get('CC', 'cc'), '-O2', '-o', finder, source], check=True)
+        found = subprocess.run([finder, str(count), str(groups), LETTERS], check=True, stdout=subprocess.PIPE)
+    return found.stdout.decode().split()
+
+
 SHAPES = {
     'random': random_names,
     'random, 12 bytes': lambda draw, count, size: random_names(draw, count, 12),
@@ -272,6 +318,7 @@ SHAPES = {
     'the same bytes, in another order': anagrams,
     'one sum, 31 times': sums(('Aa', 'BB')),
     'one sum, 33 times': sums(('Ab', 'BA')),
+    'colliding': colliding,
 }
 
 
@@ -306,6 +353,8 @@ def names(args, programs, folder):
                 # the others are measured by the random ones
                 if shape != 'random' and not is_asked(args, shape):
                     continue
+                if shape == 'colliding' and (kind == 'keys' or not args.colliding):
+                    continue
                 write(text, make(shape, count))
                 tried = [[run(program, ['degree'], text, out) for _ in range(args.repeat)] for program, out in zip(programs, outs)]
                 told = verdict([runs[0] for runs in tried], outs, DONE)
@@ -326,6 +375,7 @@ def main():
     ask.add_argument('--peer')
     ask.add_argument('--only')
     ask.add_argument('--names')
+    ask.add_argument('--colliding', action='store_true')
     # the names of two blocks have two bytes for each bit of the number, and a key has at most 32
     ask.add_argument('--keys', type=int, default=10_000, choices=range(1, 65_537), metavar='N')
     ask.add_argument('--repeat', type=int, default=3)

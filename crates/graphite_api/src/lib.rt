@@ -40,6 +40,3 @@ pub use table::ArcTable;
 
 /// The greatest number of supersteps of a run.
 pub const STEP_LIMIT: u32 = 2_097_152;
-
-#[cfg(test)]
-mod tests;

@@ -27,6 +27,3 @@ pub use std_sink::StdSink;
 pub use std_source::StdSource;
 pub use vec_sink::VecSink;
 pub use writing::{WriteFailed, write_all};
-
-#[cfg(test)]
-mod tests;

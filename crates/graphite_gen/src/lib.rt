@@ -7,6 +7,3 @@ mod made;
 mod text;
 
 pub use made::made_text;
-
-#[cfg(test)]
-mod tests;

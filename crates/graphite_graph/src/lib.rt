@@ -25,6 +25,3 @@ pub use facts::{Ask, Facts};
 pub use graph::Graph;
 pub use names::Names;
 pub use reading::{LoadFault, load};
-
-#[cfg(test)]
-mod tests;

@@ -16,6 +16,3 @@ pub use direction::Direction;
 pub use journey::journey_arcs;
 pub use mirrored::mirror;
 pub use snapshot::snapshot_arcs;
-
-#[cfg(test)]
-mod tests;

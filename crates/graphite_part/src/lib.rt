@@ -13,8 +13,6 @@ mod partition;
 mod piece;
 mod pieces;
 mod plain;
-#[cfg(test)]
-mod tests;
 mod zip;
 
 pub use counts::time_at;

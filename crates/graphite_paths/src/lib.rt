@@ -23,10 +23,3 @@ pub use start::path_start;
 /// How many instants a window of starts may have where the fastest journey is asked for: 4,096. Each is a piece of the
 /// values of the vertex that the journeys start from.
 pub const FASTEST_WINDOW: u64 = 4_096;
-
-#[cfg(test)]
-mod duration_tests;
-#[cfg(test)]
-mod start_tests;
-#[cfg(test)]
-mod tests;

@@ -22,6 +22,3 @@ pub use row::PropRow;
 pub use rows::Rows;
 pub use sides::beside;
 pub use timelines::Timelines;
-
-#[cfg(test)]
-mod tests;

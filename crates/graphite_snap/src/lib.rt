@@ -25,10 +25,3 @@ pub use rank::{Rank, SCALE};
 pub use rank_state::RankState;
 pub use run::{SnapAnswer, run_snap};
 pub use start::point_start;
-
-#[cfg(test)]
-mod loop_tests;
-#[cfg(test)]
-mod rank_tests;
-#[cfg(test)]
-mod tests;

@@ -27,6 +27,3 @@ pub use rules::{
 };
 pub use span::Span;
 pub use writing::push_record;
-
-#[cfg(test)]
-mod tests;

@@ -15,10 +15,3 @@ mod write;
 pub use call::run;
 pub use laws::{a_told_journey_has_the_value, an_answer_is_one};
 pub use status::Status;
-
-#[cfg(test)]
-mod made_tests;
-#[cfg(test)]
-mod path_tests;
-#[cfg(test)]
-mod tests;

@@ -10,8 +10,6 @@ mod parts;
 mod sides;
 mod sort;
 mod sweep;
-#[cfg(test)]
-mod tests;
 mod touch;
 mod triple;
 

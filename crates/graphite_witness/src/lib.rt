@@ -19,6 +19,3 @@ pub use laws::{
 };
 pub use step::Step;
 pub use written::witness;
-
-#[cfg(test)]
-mod tests;

@@ -15,6 +15,3 @@ pub use made::MadeAsk;
 pub use query::{Query, Report, query_of};
 pub use steps::Steps;
 pub use table::{Command, Row, row_of};
-
-#[cfg(test)]
-mod tests;
