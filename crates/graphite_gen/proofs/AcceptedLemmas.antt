@@ -1,5 +1,5 @@
--- The text of a made graph is accepted with that graph.
-use Rattle.std.proofs.Common.{◌≡◌, ◌≤◌, ℕ, List, length, ◌∙◌}
+-- The text of a made graph is short, and is accepted with that graph.
+use Rattle.std.proofs.Common.{◌≡◌, ◌≤◌, ◌<◌, ℕ, List, length, ◌∙◌, arith}
 use Rattle.std.proofs.lemmas.Bool.{cond-true, le-leb}
 use Rattle.graphite_text.specs.Lines.{lines_of}
 use Rattle.graphite_text.specs.Reading.{Accepted, reading_of, reading_from, nothing_known, text_limit}
@@ -15,8 +15,14 @@ read_where_short : (text : List ℕ) → length text ≤ text_limit → reading_
 unfolding reading_of
 read_where_short text short = cond-true _ _ _ (le-leb (length text) text_limit short)
 
+made_bytes : (recipe : Recipe) → IsRecipe recipe → length (canonical_text (made_graph recipe)) ≤ 242000036
+made_bytes recipe is = graph_is_short recipe.horizon recipe.vertices recipe.edges (choices_of recipe) (choices_are_fit recipe is)
+
+pub made_is_short : (recipe : Recipe) → IsRecipe recipe → length (canonical_text (made_graph recipe)) < 250000000
+made_is_short recipe is = omega (arith, made_bytes recipe is)
+
 pub made_is_accepted : (recipe : Recipe) → IsRecipe recipe → reading_of (canonical_text (made_graph recipe)) ≡ Accepted (made_graph recipe)
 made_is_accepted recipe is =
     let fit = choices_are_fit recipe is in
-    read_where_short (canonical_text (made_graph recipe)) (graph_is_short recipe.horizon recipe.vertices recipe.edges (choices_of recipe) fit)
+    read_where_short (canonical_text (made_graph recipe)) (omega (arith, made_bytes recipe is))
     ∙ canonical_text_of_sound (made_graph recipe) (graph_is_sound recipe.horizon recipe.vertices recipe.edges (choices_of recipe) fit) 1

@@ -1,9 +1,8 @@
--- The canonical text of a graph of fit choices is within the limit of a text.
+-- The canonical text of a graph of fit choices has no more than 242,000,036 bytes.
 use Rattle.std.proofs.Common.{◌≤◌, ◌<◌, ℕ, zero, suc, ◌+◌, ◌*◌, List, ◌++◌, length, map, sym, subst, arith, length-append}
 use Rattle.std.specs.Prelude.{codes}
 use Rattle.std.specs.List.{flat_map, range_with_len}
 use Rattle.graphite_text.specs.Forms.{Form, Header, VertexProperty, EdgeProperty}
-use Rattle.graphite_text.specs.Reading.{text_limit}
 use Rattle.graphite_text.specs.Canonical.{canonical_text, form_line, vertex_form, edge_form, vertex_property_form, edge_property_form}
 use Rattle.graphite_text.proofs.CanonicalReading.{lines_text}
 use Rattle.graphite_text.proofs.CanonicalLength.{size, form_size, canonical_text_size}
@@ -67,10 +66,10 @@ edge_property_bound h n m chosen fit j below key value keyed digit =
 -- ---- the whole
 
 bytes_bound : (n m header vertices edges sizes travels : ℕ) → n ≤ 1000000 → m ≤ 1000000 → header ≤ 32 → vertices ≤ n * 40 → edges ≤ m * 56 → sizes ≤ n * 50 → travels ≤ m * 96
-    → header + (vertices + (edges + (sizes + (travels + 4)))) ≤ 268435456
+    → header + (vertices + (edges + (sizes + (travels + 4)))) ≤ 242000036
 bytes_bound n m header vertices edges sizes travels few_vertices few_edges first second third fourth fifth = omega arith
 
-pub graph_is_short : (h n m : ℕ) (chosen : Choices) → AreFit h n m chosen → length (canonical_text (graph_of h n m chosen)) ≤ text_limit
+pub graph_is_short : (h n m : ℕ) (chosen : Choices) → AreFit h n m chosen → length (canonical_text (graph_of h n m chosen)) ≤ 242000036
 graph_is_short h n m chosen fit =
     let vertices = lines_bound vertex_form (vertex_of chosen) 40 n (vertex_bound h n m chosen fit) 0 n (omega arith) in
     let edges = lines_bound (edge_form (vertices_of chosen n)) (edge_of chosen) 56 m (edge_bound h n m chosen fit) 0 m (omega arith) in
@@ -78,5 +77,5 @@ graph_is_short h n m chosen fit =
     let travels = pairs_bound (edge_property_form (edges_of chosen m)) (time_of chosen) (cost_of chosen) 48 m
     (λ j below. edge_property_bound h n m chosen fit j below (codes "time") (chosen.times j) time_is_key (fit.times j))
     (λ j below. edge_property_bound h n m chosen fit j below (codes "cost") (chosen.costs j) cost_is_key (fit.costs j)) 0 m (omega arith) in
-    subst (λ (bytes : ℕ). bytes ≤ text_limit) (sym (canonical_text_size (graph_of h n m chosen)))
+    subst (λ (bytes : ℕ). bytes ≤ 242000036) (sym (canonical_text_size (graph_of h n m chosen)))
     (bytes_bound n m (form_size (Header 1 h)) _ _ _ _ fit.few_vertices fit.few_edges (header_size h fit.last) vertices edges sizes travels)

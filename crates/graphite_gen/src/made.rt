@@ -1,5 +1,5 @@
 //! The text of a made graph.
-ghost use Rattle.std.specs.Prelude.{◌≡◌, IfOk};
+ghost use Rattle.std.specs.Prelude.{◌≡◌, ◌<◌, IfOk, length};
 ghost use Rattle.graphite_text.specs.Canonical.{canonical_text};
 ghost use Rattle.graphite_text.specs.Reading.{Accepted, reading_of};
 ghost use Rattle.graphite_gen.specs.Drawn.{recipe_of};
@@ -14,13 +14,16 @@ use std::alloc::Global;
 
 /// The canonical text of the graph that is made from a seed, with `v` vertices and `e` edges over the
 /// instants below the horizon `h`. `v` and `e` are at most [`graphite_base::MADE_LIMIT`], `h` is from 1 to
-/// [`graphite_time::LAST`], and `v` is at least 1 where `e` is. The text is accepted with that graph.
+/// [`graphite_time::LAST`], and `v` is at least 1 where `e` is. The text is accepted with that graph, and
+/// has fewer than 250,000,000 bytes.
 pub fn made_text(alloc: Global, seed: u64, v: u32, e: u32, h: u64) -> Result<Vec<u8>, NoMemory>
     requires { IsRecipe (record { seed = seed; vertices = v; edges = e; horizon = h }) }
     ensures text { IfOk result (λ text. text.items
         ≡ canonical_text (made_graph (record { seed = seed; vertices = v; edges = e; horizon = h }))) }
     ensures accepted { reading_of (canonical_text (made_graph (record { seed = seed; vertices = v; edges = e; horizon = h })))
         ≡ Accepted (made_graph (record { seed = seed; vertices = v; edges = e; horizon = h })) }
+    ensures short { length (canonical_text (made_graph (record { seed = seed; vertices = v; edges = e; horizon = h })))
+        < 250000000 }
 {
     let numbers = Numbers {
         seed,

@@ -1,10 +1,6 @@
-//! Tests of the public calls of all crates, from outside. A crate with tests of its own is proved twice, once for them.
+//! Tests of the engine, from outside: lives, pieces, properties, time-warp, arcs, supersteps and the programs.
 #![tactic(auto)]
 
-#[cfg(test)]
-mod base;
-#[cfg(test)]
-mod graph;
 #[cfg(test)]
 mod hops;
 #[cfg(test)]
@@ -16,17 +12,9 @@ mod journey_starts;
 #[cfg(test)]
 mod lives;
 #[cfg(test)]
-mod made_runs;
-#[cfg(test)]
-mod made_texts;
-#[cfg(test)]
 mod partitions;
 #[cfg(test)]
-mod path_runs;
-#[cfg(test)]
 mod props;
-#[cfg(test)]
-mod runs;
 #[cfg(test)]
 mod snapshots;
 #[cfg(test)]
@@ -34,10 +22,6 @@ mod supersteps;
 #[cfg(test)]
 mod tables;
 #[cfg(test)]
-mod text;
-#[cfg(test)]
 mod warp;
 #[cfg(test)]
 mod witness;
-#[cfg(test)]
-mod words;

@@ -1,5 +1,4 @@
 //! Tests on texts that are read and graphs that are shown.
-use crate::runs::STOPS;
 use graphite_base::Bytes;
 use graphite_graph::{Ask, Ends, Facts, Graph, LoadFault, load};
 use graphite_part::Partition;
@@ -7,6 +6,10 @@ use graphite_time::{Life, NoMemory};
 use std::alloc::{AllocError, Global};
 use std::process::Abort;
 use std::test::Fail;
+
+/// Three vertices, of which one lives shorter, and two edges.
+const STOPS: &[u8] =
+    b"graph 1 10\nv a 0 10\nv b 0 10\nv c 2 8\ne ab a b 0 5\ne bc b c 3 7\nend\n";
 
 /// Two stops and a bus, with comments and out of the canonical order.
 fn bus() -> &'static [u8] {

@@ -4,7 +4,7 @@ ghost use Rattle.std.specs.List.Sorted.{IsSorted};
 ghost use Rattle.graphite_time.specs.Interval.{start_of, end_of};
 
 use crate::lives::interval;
-use crate::runs::STOPS;
+use crate::hops::STOPS;
 use graphite_api::{Arc, Message, Next, Program};
 use graphite_graph::{Ask, Facts, load};
 use graphite_part::Partition;

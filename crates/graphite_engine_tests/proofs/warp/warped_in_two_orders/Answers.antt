@@ -2,7 +2,7 @@
 use Rattle.std.proofs.Common.{sym, ◌∙◌}
 use Rattle.graphite_part.specs.Pieces.{value_at, AreRuns}
 use Rattle.graphite_warp.specs.Warp.{warped}
-use Rattle.graphite_tests.proofs.warp.warped_in_two_orders.Goals as goal
+use Rattle.graphite_engine_tests.proofs.warp.warped_in_two_orders.Goals as goal
 
 pub returns : goal.returns
 returns g c =

@@ -1,9 +1,8 @@
 //! Lists of words, and what they ask for.
-use crate::runs::words_of;
 use graphite_base::Bytes;
 use graphite_time::NoMemory;
 use graphite_words::{Command, MadeAsk, Query, Report, Steps, WordsFault, query_of};
-use std::alloc::Global;
+use std::alloc::{AllocError, Global};
 use std::process::Abort;
 use std::test::Fail;
 
@@ -36,6 +35,14 @@ fn bfs(alloc: Global, name: &[u8], steps: Option<Steps>) -> Result<Query, NoMemo
         steps,
         ..vertex_query(alloc, Command::Bfs, name)?
     })
+}
+
+fn words_of(alloc: Global, words: &[&str]) -> Result<Vec<String>, AllocError> {
+    let mut all = Vec::new(alloc);
+    for word in words {
+        all.push(String::from_str(alloc, word)?)?;
+    }
+    Ok(all)
 }
 
 fn expect_query(

@@ -3,7 +3,7 @@
 ghost use Rattle.std.specs.Prelude.{IfOk};
 ghost use Rattle.graphite_loop.specs.Progress.{AreInitial};
 
-use crate::runs::STOPS;
+use crate::hops::STOPS;
 use graphite_api::{ArcTable, Program, RanAt, run_at};
 use graphite_graph::load;
 use graphite_hops::{Direction, snapshot_arcs};

@@ -1,11 +1,14 @@
 //! Small graphs as tables of arcs.
-use crate::runs::STOPS;
 use graphite_api::{Arc, ArcTable};
 use graphite_graph::load;
 use graphite_hops::{Direction, journey_arcs, mirror, snapshot_arcs};
 use std::alloc::Global;
 use std::process::Abort;
 use std::test::Fail;
+
+/// Three vertices, of which one lives shorter, and two edges.
+pub(crate) const STOPS: &[u8] =
+    b"graph 1 10\nv a 0 10\nv b 0 10\nv c 2 8\ne ab a b 0 5\ne bc b c 3 7\nend\n";
 
 /// What an arc is to be: its edge with its ends, its first instant and the one after its last, and its
 /// time and cost.
