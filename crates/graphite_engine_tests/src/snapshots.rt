@@ -3,8 +3,8 @@ ghost use Rattle.std.specs.Prelude.{◌≡◌, ◌+◌, ◌^◌, ◌<◌, ◌≤
 ghost use Rattle.std.specs.List.Sorted.{IsSorted};
 ghost use Rattle.graphite_time.specs.Interval.{start_of, end_of};
 
-use crate::lives::interval;
 use crate::hops::STOPS;
+use crate::lives::interval;
 use graphite_api::{Arc, Message, Next, Program};
 use graphite_graph::{Ask, Facts, load};
 use graphite_part::Partition;

@@ -8,8 +8,7 @@ use std::process::Abort;
 use std::test::Fail;
 
 /// Three vertices, of which one lives shorter, and two edges.
-const STOPS: &[u8] =
-    b"graph 1 10\nv a 0 10\nv b 0 10\nv c 2 8\ne ab a b 0 5\ne bc b c 3 7\nend\n";
+const STOPS: &[u8] = b"graph 1 10\nv a 0 10\nv b 0 10\nv c 2 8\ne ab a b 0 5\ne bc b c 3 7\nend\n";
 
 /// Two stops and a bus, with comments and out of the canonical order.
 fn bus() -> &'static [u8] {
