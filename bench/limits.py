@@ -262,8 +262,9 @@ def sums(blocks):
     return names
 
 
-# Prints so many names of ten letters whose hashes have the same low bits. A slice is hashed by its length in eight bytes and then byte
-# by byte; each write joins the two halves of a product of 128 bits. The state behind all letters but two is kept.
+# Prints so many names of ten letters for which the table begins at one place. A slice is hashed by its length in eight bytes and then byte
+# by byte; each write joins the two halves of a product of 128 bits. The table joins the two halves of the hash, and goes by the low bits.
+# The state behind all letters but two is kept.
 COLLIDING = r'''
 #include <stdint.h>
 #include <stdio.h>
@@ -273,6 +274,7 @@ static uint64_t put(uint64_t state, uint64_t part, uint64_t size) {
     unsigned __int128 product = (unsigned __int128)(state ^ part) * (0x9e3779b97f4a7c15u ^ 2 * size);
     return (uint64_t)product ^ (uint64_t)(product >> 64);
 }
+static uint64_t folded(uint64_t hash) { return hash ^ hash >> 32; }
 static uint64_t put_byte(uint64_t state, unsigned char byte) { return put(state, byte * 0x010101u, 1); }
 int main(int count, char **words) {
     long wanted = atol(words[1]), low = atol(words[2]) - 1;
@@ -285,7 +287,7 @@ int main(int count, char **words) {
         for (int i = 0; i < kinds; i++) {
             uint64_t last = put_byte(state, letters[i]);
             for (int j = 0; j < kinds && wanted; j++)
-                if (!(put_byte(last, letters[j]) & low)) { name[8] = letters[i]; name[9] = letters[j]; puts(name); wanted--; }
+                if (!(folded(put_byte(last, letters[j])) & low)) { name[8] = letters[i]; name[9] = letters[j]; puts(name); wanted--; }
         }
     }
 }
