@@ -36,8 +36,8 @@ import tempfile
 import threading
 
 import worked
+from programs import BUILT, runnable
 
-TOP = os.path.dirname(os.path.dirname(os.path.abspath(__file__)))
 LUMP = 65_536
 NO_END = 'no end'
 
@@ -213,8 +213,8 @@ def short(answer):
 
 def main():
     ask = argparse.ArgumentParser(description=__doc__, formatter_class=argparse.RawDescriptionHelpFormatter)
-    ask.add_argument('--program', default=os.path.join(TOP, 'crates/graphite/out/graphite'))
-    ask.add_argument('--peer', required=True)
+    ask.add_argument('--program', type=runnable, default=BUILT)
+    ask.add_argument('--peer', type=runnable, required=True)
     ask.add_argument('--runs', required=True)
     ask.add_argument('--stage', type=int)
     ask.add_argument('--big', action='store_true')

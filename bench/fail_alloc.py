@@ -20,8 +20,8 @@ import sys
 import tempfile
 
 import worked
+from programs import BUILT, runnable
 
-TOP = os.path.dirname(os.path.dirname(os.path.abspath(__file__)))
 OWN, NOTHING, PREFIX, OTHER = 'own answer', 'status 7, nothing written', 'status 7, a prefix written', 'OTHER'
 # The calls that ask for memory, but for calloc of the first moment: dlsym asks it itself.
 SHIM = r'''
@@ -151,7 +151,7 @@ def try_list(refuser, runs, most):
 
 def main():
     ask = argparse.ArgumentParser(description=__doc__, formatter_class=argparse.RawDescriptionHelpFormatter)
-    ask.add_argument('--program', default=os.path.join(TOP, 'crates/graphite/out/graphite'))
+    ask.add_argument('--program', type=runnable, default=BUILT)
     ask.add_argument('--runs')
     ask.add_argument('--stage', type=int)
     ask.add_argument('--big', action='store_true')

@@ -9,13 +9,12 @@ text. A line gives the wall time. The time is to grow little faster than N in ea
 is 1 where eight times the lines take more than twenty times the time.
 """
 import argparse
-import os
 import random
 import subprocess
 import sys
 import time
 
-TOP = os.path.dirname(os.path.dirname(os.path.abspath(__file__)))
+from programs import BUILT, runnable
 
 
 def orders(count):
@@ -42,7 +41,7 @@ def seconds(program, text):
 
 def main():
     ask = argparse.ArgumentParser(description=__doc__, formatter_class=argparse.RawDescriptionHelpFormatter)
-    ask.add_argument('--program', default=os.path.join(TOP, 'crates/graphite/out/graphite'))
+    ask.add_argument('--program', type=runnable, default=BUILT)
     ask.add_argument('--lines', default='10000,80000')
     args = ask.parse_args()
     sizes = [int(n) for n in args.lines.split(',')]

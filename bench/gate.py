@@ -1,14 +1,15 @@
 #!/usr/bin/env python3
 """Runs the gate, and tells what it took for each crate, in processor seconds.
 
-    bench/gate.py [NAME..]
+    bench/gate.py [--anew] [NAME..]
 
-Runs `rt ci` (of these crates and those below them, or the gate itself), passes on what it prints, and
+Runs `rt ci` (of these crates and those below them, or the gate itself; all from nothing with --anew), passes on what it prints, and
 at the end writes a table to standard error: for each crate the functions, tests and edits that the
 run names, and the processor seconds of its proof, its tests' proofs and its edits. What was kept from
 an earlier run takes no time, so the figures from nothing want a machine with nothing kept. The times are
 those of the checker's processes below this run, read from /proc twice a second. The exit code is that of `rt ci`.
 """
+import argparse
 import collections
 import os
 import re
@@ -79,8 +80,12 @@ def edits_of(crate):
 
 
 def main():
+    ask = argparse.ArgumentParser(description=__doc__, formatter_class=argparse.RawDescriptionHelpFormatter)
+    ask.add_argument('--anew', action='store_true')
+    ask.add_argument('names', nargs='*', metavar='NAME')
+    args = ask.parse_args()
     begun = time.time()
-    run = subprocess.Popen(['rt', 'ci'] + sys.argv[1:], cwd=TOP, stdout=subprocess.PIPE, stderr=subprocess.STDOUT, text=True)
+    run = subprocess.Popen(['rt', 'ci'] + ['--anew'] * args.anew + args.names, cwd=TOP, stdout=subprocess.PIPE, stderr=subprocess.STDOUT, text=True)
     spent, ended, lines = {}, threading.Event(), []
     sampler = threading.Thread(target=sample, args=(run.pid, spent, ended), daemon=True)
     sampler.start()

@@ -22,7 +22,8 @@ import sys
 import tempfile
 import time
 
-TOP = os.path.dirname(os.path.dirname(os.path.abspath(__file__)))
+from programs import BUILT, runnable
+
 HORIZON = 1_000_000_000
 
 
@@ -87,10 +88,10 @@ def line_of(args, text, out, other):
 
 def main():
     ask = argparse.ArgumentParser(description=__doc__, formatter_class=argparse.RawDescriptionHelpFormatter)
-    ask.add_argument('--program', default=os.path.join(TOP, 'crates/graphite/out/graphite'))
+    ask.add_argument('--program', type=runnable, default=BUILT)
     ask.add_argument('--words', default='degree')
     ask.add_argument('--properties', action='store_true')
-    ask.add_argument('--peer')
+    ask.add_argument('--peer', type=runnable)
     ask.add_argument('--edges', default='125000,250000,500000,1000000')
     ask.add_argument('--repeat', type=int, default=3)
     ask.add_argument('--seed', type=int, default=1)

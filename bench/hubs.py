@@ -36,7 +36,8 @@ import subprocess
 import sys
 import tempfile
 
-TOP = os.path.dirname(os.path.dirname(os.path.abspath(__file__)))
+from programs import BUILT, runnable
+
 HORIZON = 1_000_000_000
 MOST = 1_048_574                                          # a text has at most 1,048,576 vertices
 
@@ -181,8 +182,8 @@ def shapes(words):
 
 def main():
     ask = argparse.ArgumentParser(description=__doc__, formatter_class=argparse.RawDescriptionHelpFormatter)
-    ask.add_argument('--program', default=os.path.join(TOP, 'crates/graphite/out/graphite'))
-    ask.add_argument('--peer')
+    ask.add_argument('--program', type=runnable, default=BUILT)
+    ask.add_argument('--peer', type=runnable)
     ask.add_argument('--contacts', type=counts, default=[100_000], metavar='N[,N..]')
     ask.add_argument('--shapes', type=shapes, default=list(SHAPES), metavar='SHAPE[,SHAPE..]')
     ask.add_argument('--repeat', type=int, default=3, metavar='N')

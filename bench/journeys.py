@@ -25,7 +25,8 @@ import subprocess
 import sys
 import tempfile
 
-TOP = os.path.dirname(os.path.dirname(os.path.abspath(__file__)))
+from programs import BUILT, SCRIPT, runnable
+
 JOURNEYS = ['reach', 'earliest', 'cheapest', 'fastest', 'latest']
 # How many instants `fastest` is asked for. Each can be the value of a piece at each vertex, so where edges live long a report
 # grows with the window.
@@ -42,10 +43,9 @@ def built(path):
     """The program to time: that at the path, or the one that bin/graphite starts, which is proved and built if need be."""
     if path:
         return path
-    script = [os.path.join(TOP, 'bin', 'graphite')]
-    if subprocess.run(script, stdin=subprocess.DEVNULL, stdout=subprocess.DEVNULL).returncode == 70:
+    if subprocess.run([SCRIPT], stdin=subprocess.DEVNULL, stdout=subprocess.DEVNULL).returncode == 70:
         sys.exit('the program could not be built')
-    return os.path.join(TOP, 'crates', 'graphite', 'out', 'graphite')
+    return BUILT
 
 
 def text_of(make, folder, shape, edges):
@@ -141,10 +141,10 @@ def table(programs, args, folder):
 
 def main():
     ask = argparse.ArgumentParser(description=__doc__, formatter_class=argparse.RawDescriptionHelpFormatter)
-    ask.add_argument('--program')
-    ask.add_argument('--peer', required=True)
-    ask.add_argument('--scan')
-    ask.add_argument('--make', required=True)
+    ask.add_argument('--program', type=runnable)
+    ask.add_argument('--peer', type=runnable, required=True)
+    ask.add_argument('--scan', type=runnable)
+    ask.add_argument('--make', type=runnable, required=True)
     ask.add_argument('--edges', default='200000,1000000')
     ask.add_argument('--runs', type=int, default=3)
     ask.add_argument('--only')

@@ -28,7 +28,8 @@ import subprocess
 import sys
 import tempfile
 
-TOP = os.path.dirname(os.path.dirname(os.path.abspath(__file__)))
+from programs import BUILT, runnable
+
 TEXT, VERTICES, EDGES, PROPERTIES = 268_435_456, 1_048_576, 2_097_152, 4_194_304
 LINE, NAME, KEY, VALUE, LAST, STEPS, MADE, SEED = 1_024, 64, 32, 2 ** 32 - 1, 2 ** 44, 2_097_152, 1_000_000, 2 ** 64 - 1
 BLOCK = 10_000
@@ -373,8 +374,8 @@ def names(args, programs, folder):
 
 def main():
     ask = argparse.ArgumentParser(description=__doc__, formatter_class=argparse.RawDescriptionHelpFormatter)
-    ask.add_argument('--program', default=os.path.join(TOP, 'crates/graphite/out/graphite'))
-    ask.add_argument('--peer')
+    ask.add_argument('--program', type=runnable, default=BUILT)
+    ask.add_argument('--peer', type=runnable)
     ask.add_argument('--only')
     ask.add_argument('--names')
     ask.add_argument('--colliding', action='store_true')

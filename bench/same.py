@@ -29,7 +29,8 @@ import random
 import subprocess
 import sys
 
-TOP = os.path.dirname(os.path.dirname(os.path.abspath(__file__)))
+from programs import SCRIPT, runnable
+
 SNAPSHOTS = ['degree', 'bfs', 'components', 'max', 'distance', 'rank']
 JOURNEYS = ['reach', 'earliest', 'cheapest', 'fastest', 'latest']
 LAST = 17_592_186_044_416
@@ -208,9 +209,9 @@ def is_all(told, same, codes):
 
 def main():
     ask = argparse.ArgumentParser(description=__doc__, formatter_class=argparse.RawDescriptionHelpFormatter)
-    ask.add_argument('--program', default=os.path.join(TOP, 'bin', 'graphite'))
-    ask.add_argument('--peer', required=True)
-    ask.add_argument('--make')
+    ask.add_argument('--program', type=runnable, default=SCRIPT)
+    ask.add_argument('--peer', type=runnable, required=True)
+    ask.add_argument('--make', type=runnable)
     ask.add_argument('--texts', type=int, default=20)
     ask.add_argument('--lists', type=int, default=10)
     ask.add_argument('--edges', type=int, default=300)

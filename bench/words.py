@@ -10,12 +10,12 @@ bin/graphite where no path is given.
 """
 import argparse
 import collections
-import os
 import random
 import subprocess
 import sys
 
-TOP = os.path.dirname(os.path.dirname(os.path.abspath(__file__)))
+from programs import SCRIPT, runnable
+
 
 TEXT = b'''graph 1 5000
 v a 0 10
@@ -96,8 +96,8 @@ def answer(program, words):
 
 def main():
     ask = argparse.ArgumentParser(description='compares the answers of two programs to lists of words')
-    ask.add_argument('--program', default=os.path.join(TOP, 'bin', 'graphite'))
-    ask.add_argument('--peer', required=True)
+    ask.add_argument('--program', type=runnable, default=SCRIPT)
+    ask.add_argument('--peer', type=runnable, required=True)
     ask.add_argument('--lists', type=int, default=1000)
     ask.add_argument('--seed', type=int, default=1)
     args = ask.parse_args()
